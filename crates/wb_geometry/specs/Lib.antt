@@ -1,0 +1,5 @@
+pub mod Device
+pub mod Geometry
+pub mod Image
+pub mod History
+pub mod Requests

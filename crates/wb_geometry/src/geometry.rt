@@ -1,0 +1,100 @@
+//! The numbers of a cache.
+ghost use Rattle.std.specs.Prelude.{◌≡◌, ◌≤◌, ◌%◌, ◌^◌, IfOk, IfErr};
+ghost use Rattle.wb_geometry.specs.Geometry.{IsOrder, IsSlots, IsRam, IsBacking};
+
+/// The numbers of a cache. Only numbers in their ranges make one.
+#[derive(Clone, Copy, Debug, PartialEq, Eq)]
+pub struct Geometry {
+    /// A slot of the log has `2 ^ order` sectors; 4 to 10.
+    pub order: u32,
+    /// The slots of the log; 2 to 16384.
+    pub slots: u32,
+    /// The segments that are kept in memory; 2 to 64.
+    pub ram: u32,
+    /// The sectors of the backing device that are served; a multiple of 8, from 8 to `2 ^ 40`.
+    pub backing_sectors: u64,
+    pub ghost order_fits: { IsOrder order },
+    pub ghost slots_fit: { IsSlots slots },
+    pub ghost ram_fits: { IsRam ram },
+    pub ghost backing_fits: { IsBacking backing_sectors },
+}
+
+/// The first number that is out of its range, with that number.
+#[derive(Clone, Copy, Debug, PartialEq, Eq)]
+pub enum GeometryRefused {
+    /// The order isn't in 4 to 10.
+    Order(u32),
+    /// The number of slots isn't in 2 to 16384.
+    Slots(u32),
+    /// The number of segments in memory isn't in 2 to 64.
+    Ram(u32),
+    /// The number of backing sectors is 0, above `2 ^ 40`, or no multiple of 8.
+    Backing(u64),
+}
+
+impl Geometry {
+    ghost use Rattle.std.specs.Prelude.{◌≡◌, IfOk, IfErr};
+    ghost use Rattle.wb_geometry.specs.Geometry.{Refuses};
+
+    /// The geometry of these numbers, or the first of them, in this order, that is out of its range.
+    pub fn new(
+        order: u32,
+        slots: u32,
+        ram: u32,
+        backing_sectors: u64,
+    ) -> Result<Geometry, GeometryRefused>
+        ensures order { IfOk result (λ g. g.order ≡ order) }
+        ensures slots { IfOk result (λ g. g.slots ≡ slots) }
+        ensures ram { IfOk result (λ g. g.ram ≡ ram) }
+        ensures backing { IfOk result (λ g. g.backing_sectors ≡ backing_sectors) }
+        ensures refused { IfErr result (Refuses order slots ram backing_sectors) }
+    {
+        if !(4..=10).contains(&order) {
+            return Err(GeometryRefused::Order(order));
+        }
+        if !(2..=16384).contains(&slots) {
+            return Err(GeometryRefused::Slots(slots));
+        }
+        if !(2..=64).contains(&ram) {
+            return Err(GeometryRefused::Ram(ram));
+        }
+        if backing_sectors == 0 || backing_sectors > 1 << 40 || backing_sectors % 8 != 0 {
+            return Err(GeometryRefused::Backing(backing_sectors));
+        }
+        Ok(Geometry {
+            order,
+            slots,
+            ram,
+            backing_sectors,
+        })
+    }
+}
+
+#[cfg(test)]
+mod tests {
+    use super::*;
+
+    #[test]
+    fn the_first_number_out_of_range_is_named(rt: HostRuntime) {
+        let rows = [
+            ((4, 2, 2, 8), None),
+            ((10, 16384, 64, 1 << 40), None),
+            ((3, 1, 1, 0), Some(GeometryRefused::Order(3))),
+            ((11, 4, 2, 8), Some(GeometryRefused::Order(11))),
+            ((5, 1, 1, 0), Some(GeometryRefused::Slots(1))),
+            ((5, 16385, 2, 8), Some(GeometryRefused::Slots(16385))),
+            ((5, 4, 1, 0), Some(GeometryRefused::Ram(1))),
+            ((5, 4, 65, 8), Some(GeometryRefused::Ram(65))),
+            ((5, 4, 2, 0), Some(GeometryRefused::Backing(0))),
+            ((5, 4, 2, 9), Some(GeometryRefused::Backing(9))),
+            (
+                (5, 4, 2, (1 << 40) + 8),
+                Some(GeometryRefused::Backing((1 << 40) + 8)),
+            ),
+        ];
+        for ((order, slots, ram, sectors), refused) in rows {
+            let made = Geometry::new(order, slots, ram, sectors);
+            assert_eq!(rt; made.err(), refused, "of {order} {slots} {ram} {sectors}");
+        }
+    }
+}

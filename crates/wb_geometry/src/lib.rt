@@ -1,0 +1,13 @@
+//! What everything else speaks of: the numbers of a cache, images and histories, and the parts of a request.
+//!
+//! `specs/` has the model that the other crates' contracts cite: an image is a list of sectors, a history is a list of
+//! entries by place, and `after` says what a history makes of an image (docs/MODEL.md).
+#![tactic(auto)]
+
+mod geometry;
+mod request;
+mod which;
+
+pub use geometry::{Geometry, GeometryRefused};
+pub use request::{Part, Places};
+pub use which::Which;

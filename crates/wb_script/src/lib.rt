@@ -1,0 +1,19 @@
+//! Scripts and transcripts: what a script's bytes spell, which answers are legal, and the text that they are printed as.
+//!
+//! `specs/Grammar.antt` is the grammar, `specs/Transcripts.antt` says which transcripts are legal and which history they
+//! print, and `specs/Output.antt` is the text (docs/SCRIPT.md).
+#![tactic(auto)]
+
+mod parsing;
+mod printing;
+mod refusal;
+mod request;
+mod script;
+mod transcript;
+
+pub use parsing::parse;
+pub use printing::{PrintStop, print};
+pub use refusal::{Cause, ParseStop, ScriptRefused};
+pub use request::{Pattern, Request};
+pub use script::{Requests, Script};
+pub use transcript::{Line, Shown, Stop, Transcript};

@@ -1,0 +1,88 @@
+//! A script that was parsed.
+ghost use Rattle.std.specs.Prelude.{◌≡◌};
+
+use crate::Request;
+use std::marker::Model;
+
+/// The requests of one client, in the order of lines.
+#[derive(Debug, Drop)]
+pub struct Requests {
+    items: Vec<Request>,
+}
+
+impl Model for Requests {
+    ghost use Rattle.std.specs.Prelude.{List};
+    ghost use Rattle.wb_script.specs.declared.request.Request.{Request};
+
+    ghost Value = { List Request };
+
+    ghost view = { λ r. r.items.items };
+}
+
+impl Requests {
+    /// These requests.
+    pub fn of(items: Vec<Request>) -> Requests
+        ensures { result ≡ items.items }
+    {
+        Requests { items }
+    }
+
+    /// The requests in order.
+    pub fn as_slice(&self) -> &[Request]
+        ensures { result.now ≡ self.now }
+    {
+        self.items.as_slice()
+    }
+}
+
+/// A script: the number of clients, the backing sectors that it was parsed for, and the requests of each client.
+#[derive(Debug, Drop)]
+pub struct Script {
+    clients: u32,
+    sectors: u64,
+    requests: Vec<Requests>,
+}
+
+impl Model for Script {
+    ghost use Rattle.wb_script.specs.Content.{ScriptContent};
+
+    ghost Value = { ScriptContent };
+
+    ghost view = { λ s. record { clients = s.clients; sectors = s.sectors; requests = s.requests.items } };
+}
+
+impl Script {
+    /// A script of these numbers and requests.
+    pub fn of(clients: u32, sectors: u64, requests: Vec<Requests>) -> Script
+        ensures clients { result.clients ≡ clients }
+        ensures sectors { result.sectors ≡ sectors }
+        ensures requests { result.requests ≡ requests.items }
+    {
+        Script {
+            clients,
+            sectors,
+            requests,
+        }
+    }
+
+    /// The number of clients.
+    pub fn clients(&self) -> u32
+        ensures { result ≡ self.now.clients }
+    {
+        self.clients
+    }
+
+    /// The sectors of the backing device that the script was parsed for.
+    pub fn sectors(&self) -> u64
+        ensures { result ≡ self.now.sectors }
+    {
+        self.sectors
+    }
+
+    /// The requests of each client.
+    pub fn requests(&self) -> &[Requests]
+        ensures { result.now ≡ self.now.requests }
+    {
+        self.requests.as_slice()
+    }
+}

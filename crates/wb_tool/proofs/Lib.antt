@@ -1,0 +1,5 @@
+pub mod Accounts
+pub mod Answering
+pub mod Entries
+pub mod Runs
+pub mod Servings

@@ -1,0 +1,11 @@
+//! The program as one call: `run_single` takes the words of the command line, a source, a sink and two devices, does
+//! what the words ask, and answers a status. Its contract says what a run answers for (`specs/Account.antt`).
+#![tactic(auto)]
+
+mod plain;
+mod reading;
+mod run;
+mod session;
+mod texts;
+
+pub use run::{Outcome, run_single};
