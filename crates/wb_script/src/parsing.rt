@@ -43,6 +43,7 @@ pub fn parse(alloc: Global, bytes: &[u8], g: &Geometry) -> Result<Script, ParseS
     read_script(alloc, bytes, count, clients, g.backing_sectors)
 }
 
+/// The refusal of a script for what offends in this line.
 fn refused(line: u64, cause: Cause) -> ParseStop
     ensures { result ≡ ParseStop.Refused (record { line = line; cause = cause }) }
 {

@@ -9,3 +9,6 @@ mod session;
 mod texts;
 
 pub use run::{Outcome, run_single};
+
+#[cfg(test)]
+mod tests;

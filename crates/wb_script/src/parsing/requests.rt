@@ -5,6 +5,7 @@ ghost use Rattle.hex.specs.Hex.{decode_of};
 ghost use Rattle.wb_script.specs.Grammar.{IsRequest, IsSpelled, words};
 ghost use Rattle.wb_script.specs.Valid.{IsAsked, IsWithin, Fills};
 ghost use Rattle.wb_script.specs.declared.request.Request.{Request};
+ghost use Rattle.wb_script.specs.declared.parsing.requests.LineStop.TheVariants.{Offends};
 
 use super::words::{Words, is, number};
 use crate::{Cause, Pattern, Request};
@@ -26,6 +27,14 @@ pub(super) enum LineStop {
     Memory,
 }
 
+impl From<Cause> for LineStop {
+    ghost from_gives = { λ cause stop. stop ≡ Offends cause };
+
+    fn from(cause: Cause) -> LineStop {
+        LineStop::Offends(cause)
+    }
+}
+
 /// The request that the line spells, with its client: one of so many clients, on so many sectors.
 pub(super) fn read_request(
     alloc: Global,
@@ -41,7 +50,7 @@ pub(super) fn read_request(
     let [client, letter, operands @ ..] = words.as_slice() else {
         return Err(LineStop::Offends(Cause::Command));
     };
-    let client = client_of(client, clients).ok_or(LineStop::Offends(Cause::Command))?;
+    let client = client_of(client, clients).ok_or(Cause::Command)?;
     let request = command_of(alloc, letter, operands, sectors)?;
     Ok((client, request))
 }
@@ -95,9 +104,7 @@ fn write_of(alloc: Global, operands: &[&[u8]], sectors: u64) -> Result<Request, 
     let [sector, count, digits] = operands else {
         return Err(LineStop::Offends(Cause::Command));
     };
-    let (sector, count) = range_of(sector, count, sectors).ok_or(LineStop::Offends(
-        Cause::Command,
-    ))?;
+    let (sector, count) = range_of(sector, count, sectors).ok_or(Cause::Command)?;
     let pattern = pattern_of(alloc, digits, count)?;
     Ok(Request::Write {
         sector,
@@ -119,9 +126,7 @@ fn read_of(operands: &[&[u8]], sectors: u64) -> Result<Request, LineStop>
     let [sector, count] = operands else {
         return Err(LineStop::Offends(Cause::Command));
     };
-    let (sector, count) = range_of(sector, count, sectors).ok_or(LineStop::Offends(
-        Cause::Command,
-    ))?;
+    let (sector, count) = range_of(sector, count, sectors).ok_or(Cause::Command)?;
     Ok(Request::Read { sector, count })
 }
 

@@ -119,10 +119,10 @@ fn reads_scripts(rt: HostRuntime) -> Result<(), Fail> {
         ("clients 1", ""),
         ("clients 1\n", ""),
         ("clients 1\n0 w 63 1 FF", write),
-        ("clients 1\n0 w 63 1 fF\n", write),
+        ("clients 1\n0 w 63 1 FF\n", write),
         ("clients 1\n0 r 0 1", read),
         ("clients 1\n0 r 0 1\n", read),
-        ("clients 1\n0 w 63 1 ff\n0 r 0 1\n", both.as_str()),
+        ("clients 1\n0 w 63 1 fF\n0 r 0 1\n", both.as_str()),
     ];
     for (text, requests) in scripts {
         let script = parse(rt.alloc(), text.as_bytes(), &g)?;

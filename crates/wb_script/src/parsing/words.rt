@@ -1,5 +1,5 @@
 //! The words of a line.
-ghost use Rattle.std.specs.Prelude.{◌≡◌, ◌≤◌, ◌<◌, ◌^◌, ◌↔◌, IsTrue, ℕ, MatchOption, map, take, ◌≢◌, slice_index, length};
+ghost use Rattle.std.specs.Prelude.{◌≡◌, ◌≢◌, ◌<◌, ◌^◌, ◌↔◌, ℕ, IsTrue, MatchOption, length, map, take, slice_index};
 ghost use Rattle.std.specs.Fmt.{decimal};
 ghost use Rattle.wb_script.specs.Grammar.{words};
 
@@ -40,6 +40,7 @@ impl<'a> Words<'a> {
         Words { first, count }
     }
 
+    /// The words in order.
     pub(super) fn as_slice(&self) -> &[&'a [u8]]
         ensures { map (λ word. word.now) result.now ≡ self.now }
     {
