@@ -104,6 +104,7 @@ log_account words source sink log old new status transcripts places account =
           output = served.output;
           output_cut = served.output_cut;
           output_failed = served.output_failed;
+          changed = served.changed;
           content = served.content;
           durable = served.durable;
         };

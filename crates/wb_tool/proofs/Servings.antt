@@ -1,5 +1,5 @@
 -- Lemmas on what a session leaves.
-use Rattle.std.proofs.Common.{◌≡◌, ◌⊎◌, ◌+◌, ◌≤◌, List, [], ◌∷◌, ◌++◌, length, take, ℕ, Bool, true, false, sym, ap, subst, ◌∙◌, arith, inl, inr, ⊎_elim, append_assoc, length-append, get_or, Option, Some, None, Result, Ok, Err, is_err, OnOk, All}
+use Rattle.std.proofs.Common.{◌≡◌, ◌⊎◌, ◌+◌, ◌≤◌, List, [], ◌∷◌, ◌++◌, length, take, ℕ, Bool, true, false, sym, ap, subst, ◌∙◌, arith, inl, inr, ⊎_elim, append_assoc, length-append, get_or, Option, Some, None, Result, Ok, Err, is_err, OnOk, OnErr, All}
 use Rattle.std.proofs.lemmas.List.{take-append-le}
 use Rattle.std.proofs.lemmas.List.Elements.{All-cons, All-nil}
 use Rattle.std.proofs.Math.Seq.{take-append-add}
@@ -7,6 +7,7 @@ use Rattle.std.specs.Io.KnownBytes.{Appends}
 use Rattle.wb_geometry.specs.History.{HistoryEntry, after}
 use Rattle.wb_geometry.specs.declared.which.Which.TheVariants.{Log, Backing}
 use Rattle.wb_geometry.specs.Device.{State, Rose, ContentPasses, NothingPending}
+use Rattle.wb_geometry.proofs.Moments.{content_weaker}
 use Rattle.wb_device.specs.Streams.{AppendsFront}
 use Rattle.wb_script.specs.Content.{ScriptContent}
 use Rattle.wb_script.specs.Output.{session_text}
@@ -15,8 +16,9 @@ use Rattle.wb_script.specs.declared.request.Request.{Request}
 use Rattle.wb_script.specs.declared.transcript.Line.{Line}
 use Rattle.wb_script.proofs.Sessions.{IsLegal-alone, AreLegal-one, IsHistory-one, all_failures-one, one_history}
 use Rattle.wb_tool.specs.Run.{Lent, lent, Took}
-use Rattle.wb_tool.specs.Plain.{IsPlayed, RoseBy}
+use Rattle.wb_tool.specs.Plain.{IsPlayed, RoseBy, PutsPartly}
 use Rattle.wb_tool.specs.Served.{Served, Reports, no_log}
+use Rattle.wb_tool.proofs.Entries.{puts_all}
 
 abbrev Known : Type 0
 Known = Option (List ℕ)
@@ -54,10 +56,11 @@ rose_on times before mid now rose on = omega arith
 -- of the lines of one client and the history that they print
 served_one : (script : ScriptContent) (requests : List Request) (sink : Lent) (old mid new : State) (lines : List Line) (history : List HistoryEntry) (failed : Bool) (status : ℕ)
     → script.requests ≡ requests ∷ [] → IsPlayed 0 requests old mid lines history failed → mid.faults ≤ new.faults
+    → ContentPasses (PutsPartly history) old new
     → (all_failed : Bool) → (all_failed ≡ false → ContentPasses (λ base image. image ≡ after base history) old new) → (all_failed ≡ false → NothingPending new)
     → Reports sink (session_text script (lines ∷ []) (length history)) all_failed status
     → Served script sink no_log no_log old new status (lines ∷ []) (length history)
-served_one script requests sink old mid new lines history failed status one played later all_failed stored synced reports =
+served_one script requests sink old mid new lines history failed status one played later changed all_failed stored synced reports =
     let printed = IsHistory-one script requests lines history one played.once in record {
       history = history;
       printed = printed;
@@ -69,6 +72,7 @@ served_one script requests sink old mid new lines history failed status one play
       output = λ s. (reports.done s).2;
       output_cut = λ s. (reports.cut s).2;
       output_failed = λ s. (reports.told s).1;
+      changed = changed;
       content = λ s. stored (⊎_elim (λ zero. (reports.done zero).0) (λ five. (reports.cut five).0) s);
       durable = λ s. synced (⊎_elim (λ zero. (reports.done zero).0) (λ five. (reports.cut five).0) s);
     }
@@ -76,13 +80,20 @@ served_one script requests sink old mid new lines history failed status one play
 -- the steps of a session, joined
 pub session_served : (script : ScriptContent) (requests : List Request) (sink : Lent) (old mid new : State) (lines : List Line) (history : List HistoryEntry) (failed : Bool) (status : ℕ) (transcripts : List (List Line)) (places : ℕ)
     → script.requests ≡ requests ∷ [] → IsPlayed 0 requests old mid lines history failed → transcripts ≡ lines ∷ [] → places ≡ length history
-    → mid.faults ≤ new.faults → (all_failed : Bool) → (all_failed ≡ false → ContentPasses (λ base image. image ≡ after base history) old new) → (all_failed ≡ false → NothingPending new)
+    → mid.faults ≤ new.faults → ContentPasses (PutsPartly history) old new → (all_failed : Bool) → (all_failed ≡ false → ContentPasses (λ base image. image ≡ after base history) old new) → (all_failed ≡ false → NothingPending new)
     → Reports sink (session_text script transcripts places) all_failed status
     → Served script sink no_log no_log old new status transcripts places
-session_served script requests sink old mid new lines history failed status transcripts places one played written count later all_failed stored synced reports =
+session_served script requests sink old mid new lines history failed status transcripts places one played written count later changed all_failed stored synced reports =
     let A : List (List Line) → Type 0 = λ t. Reports sink (session_text script t (length history)) all_failed status → Served script sink no_log no_log old new status t (length history) in
     let B : ℕ → Type 0 = λ p. Reports sink (session_text script transcripts p) all_failed status → Served script sink no_log no_log old new status transcripts p in
-    subst B (sym count) (subst A (sym written) (served_one script requests sink old mid new lines history failed status one played later all_failed stored synced)) reports
+    subst B (sym count) (subst A (sym written) (served_one script requests sink old mid new lines history failed status one played later changed all_failed stored synced)) reports
+
+-- what a put leaves, whether or not it failed
+pub put_or_not : {E : Type 0} {old new : State} (history : List HistoryEntry) (stored : Result (Unit {0}) E)
+    → OnOk stored (ContentPasses (λ base image. image ≡ after base history) old new) → OnErr stored (ContentPasses (PutsPartly history) old new)
+    → ContentPasses (PutsPartly history) old new
+put_or_not history (Ok u) whole some = content_weaker (λ x y told is. subst (PutsPartly history x) (sym is) (puts_all history x)) whole
+put_or_not history (Err e) whole some = some
 
 -- a read or a put that failed fails the session
 pub put_if_fine : {E : Type 0} (played all : Bool) (stored : Result (Unit {0}) E) (P : Type 0) → OnOk stored P

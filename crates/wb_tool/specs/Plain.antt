@@ -1,8 +1,8 @@
 -- The plain list of entries behind a session: what it stands for, and what playing a client's requests leaves.
-use Rattle.std.specs.Prelude.{ℕ, ◌≡◌, ◌+◌, ◌-◌, ◌*◌, ◌/◌, ◌^◌, ◌≤◌, Bool, true, false, List, ◌++◌, length, replicate, min, Some, All}
+use Rattle.std.specs.Prelude.{ℕ, ◌≡◌, ◌⊎◌, ◌+◌, ◌-◌, ◌*◌, ◌/◌, ◌^◌, ◌≤◌, Bool, true, false, List, ◌++◌, length, replicate, min, Some, All, Contains}
 use Rattle.std.specs.List.{enumerate_from}
-use Rattle.wb_geometry.specs.Image.{Image, bytes_at}
-use Rattle.wb_geometry.specs.History.{HistoryEntry, Write, Void, client_of, after}
+use Rattle.wb_geometry.specs.Image.{Image, sector, bytes_at}
+use Rattle.wb_geometry.specs.History.{HistoryEntry, Write, Void, client_of, written, after}
 use Rattle.wb_geometry.specs.Requests.{part_in, entry_of}
 use Rattle.wb_geometry.specs.declared.which.Which.TheVariants.{Log, Backing}
 use Rattle.wb_geometry.specs.Device.{State, Rose, IsSameDevice}
@@ -29,6 +29,11 @@ IsOneSector sectors (request.Read sector count) = (count ≡ 1) × (8 * (sector 
 -- the bytes of a sector after these entries, where the device tells its content
 pub record HoldsAfter (entries : List HistoryEntry) (sector : ℕ) (into : List ℕ) (s : State) : Type 0 where
   pub told : (x : Image) → s.content ≡ Some x → into ≡ bytes_at (after x entries) sector 1
+
+-- each sector of y is as it was in x, or as one of the entries writes it: no sector changes that none of them writes
+pub record PutsPartly (entries : List HistoryEntry) (x y : Image) : Type 0 where
+  pub size : length y ≡ length x
+  pub each : (i : ℕ) → (sector y i ≡ sector x i) ⊎ ((entry : HistoryEntry) × Contains entries entry × (written i entry ≡ Some (sector y i)))
 
 -- a count of faults rose at least so often, or stands at its last value
 abbrev pub RoseBy : ℕ → ℕ → ℕ → Type 0

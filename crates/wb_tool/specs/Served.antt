@@ -12,7 +12,7 @@ use Rattle.wb_script.specs.Output.{session_text}
 use Rattle.wb_script.specs.declared.transcript.Line.{Line}
 use Rattle.wb_tool.specs.Run.{Lent, HasFailed, HasNotFailed, Took}
 use Rattle.wb_tool.specs.Texts.{backing_line}
-use Rattle.wb_tool.specs.Plain.{RoseBy}
+use Rattle.wb_tool.specs.Plain.{RoseBy, PutsPartly}
 
 -- A session of this script over these devices. The history is that of the transcripts, and the base image is the
 -- backing device's content at entry.
@@ -29,6 +29,8 @@ pub record Served (script : ScriptContent) (sink : Lent) (log_before log_after b
   pub output : status ≡ 0 → Appends sink.before sink.after (session_text script transcripts places)
   pub output_cut : status ≡ 5 → AppendsFront sink.before sink.after (session_text script transcripts places)
   pub output_failed : status ≡ 7 → Took sink (session_text script transcripts places ++ backing_line)
+  -- whatever the status, no sector changes but to what an entry of the history writes
+  pub changed : ContentPasses (PutsPartly history) backing_before backing_after
   -- the whole history is put
   pub content : (status ≡ 0) ⊎ (status ≡ 5)
       → ContentPasses (λ base image. image ≡ after base history) backing_before backing_after

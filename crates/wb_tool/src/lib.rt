@@ -6,6 +6,7 @@ mod plain;
 mod reading;
 mod run;
 mod session;
+mod status;
 mod texts;
 
 pub use run::{Outcome, run_single};

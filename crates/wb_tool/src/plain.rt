@@ -1,8 +1,8 @@
 //! The entries of a session as a plain list, in the order in which they came.
 ghost use Rattle.std.specs.Prelude.{◌≡◌, ◌<◌, [], ◌∷◌, ◌++◌, length, All, OnOk, OnErr};
 ghost use Rattle.wb_geometry.specs.History.{after};
-ghost use Rattle.wb_geometry.specs.Device.{IsSameDevice, HasCause, ContentPasses, NothingPending};
-ghost use Rattle.wb_tool.specs.Plain.{sector_entry, HoldsAfter, IsBlockInside};
+ghost use Rattle.wb_geometry.specs.Device.{IsSameDevice, HasCause, Passes, ContentPasses, NothingPending};
+ghost use Rattle.wb_tool.specs.Plain.{sector_entry, HoldsAfter, IsBlockInside, PutsPartly};
 
 use std::alloc::{AllocError, Global};
 use std::marker::Model;
@@ -89,10 +89,12 @@ impl EntryList {
     }
 
     /// Puts all entries to the device, one after another, and then makes sure of them by one sync. It ends at the first
-    /// call that fails.
+    /// call that fails. After an `Err`, and in a crash, each sector is as it was or as one of the entries writes it.
     pub fn put_all<B: Device>(&self, backing: &mut B) -> Result<(), DeviceFault>
         requires { All (IsBlockInside (B.state backing.old).sectors) self.now }
         ensures ok { OnOk result (ContentPasses (λ base image. image ≡ after base self.now) (B.state backing.old) (B.state backing.new)) }
+        ensures err { OnErr result (ContentPasses (PutsPartly self.now) (B.state backing.old) (B.state backing.new)) }
+        ensures crash { Passes (PutsPartly self.now) (B.state backing.old) (B.state backing.new) }
         ensures durable { OnOk result (NothingPending (B.state backing.new)) }
         ensures same { IsSameDevice (B.state backing.old) (B.state backing.new) }
         ensures cause { HasCause (B.state backing.old) (B.state backing.new) result }

@@ -9,6 +9,7 @@ ghost use Rattle.wb_tool.specs.Account.{IsAccounted, IsComplete};
 
 use crate::reading::{ReadStop, read_all};
 use crate::session::play;
+use crate::status;
 use crate::texts::{BACKING_FAILED, SOURCE_FAILED, USAGE, refused_text, small_text, tell};
 use std::alloc::Global;
 use wb_device::{Device, Sink, Source};
@@ -107,15 +108,15 @@ fn serve<S: Source, K: Sink, B: Device>(
 {
     if !is_serve(words) {
         tell(sink, USAGE);
-        return Ended::refused(alloc, 2);
+        return Ended::refused(alloc, status::USAGE);
     }
     let sectors = backing.sectors();
     if sectors < BLOCK_SECTORS {
         let Ok(text) = small_text(alloc, sectors) else {
-            return Ended::refused(alloc, 1);
+            return Ended::refused(alloc, status::MEMORY);
         };
         tell(sink, text.as_str());
-        return Ended::refused(alloc, 9);
+        return Ended::refused(alloc, status::SMALL);
     }
     serve_source(alloc, words, source, sink, backing)
 }
@@ -144,21 +145,21 @@ fn serve_source<S: Source, K: Sink, B: Device>(
 {
     let bytes = match read_all(alloc, source) {
         Ok(bytes) => bytes,
-        Err(ReadStop::Memory) => return Ended::refused(alloc, 1),
+        Err(ReadStop::Memory) => return Ended::refused(alloc, status::MEMORY),
         Err(ReadStop::Fault) => {
             tell(sink, SOURCE_FAILED);
-            return Ended::refused(alloc, 4);
+            return Ended::refused(alloc, status::SOURCE);
         }
     };
     match parse(alloc, bytes.as_slice(), &geometry_of(backing.sectors())) {
         Ok(script) => serve_script(alloc, sink, backing, &script),
-        Err(ParseStop::Memory) => Ended::refused(alloc, 1),
+        Err(ParseStop::Memory) => Ended::refused(alloc, status::MEMORY),
         Err(ParseStop::Refused(refused)) => {
             let Ok(text) = refused_text(alloc, refused) else {
-                return Ended::refused(alloc, 1);
+                return Ended::refused(alloc, status::MEMORY);
             };
             tell(sink, text.as_str());
-            Ended::refused(alloc, 3)
+            Ended::refused(alloc, status::SCRIPT)
         }
     }
 }
@@ -193,13 +194,13 @@ fn serve_script<K: Sink, B: Device>(
 {
     let requests = &script.requests()[0];
     let Ok(played) = play(alloc, backing, 0, requests.as_slice()) else {
-        return Ended::refused(alloc, 1);
+        return Ended::refused(alloc, status::MEMORY);
     };
     let stored = played.entries.put_all(backing);
     let failed = played.failed || stored.is_err();
     let places = played.entries.len() as u64;
     let Ok(transcripts) = vec![in alloc; played.transcript] else {
-        return Ended::refused(alloc, 1);
+        return Ended::refused(alloc, status::MEMORY);
     };
     let status = report(alloc, sink, script, transcripts.as_slice(), places, failed);
     Ended {
@@ -222,12 +223,13 @@ fn report<K: Sink>(
         (session_text script.now transcripts.now places) failed result }
 {
     match print(alloc, sink, script, transcripts, places) {
-        Err(PrintStop::Memory) => 1,
-        Err(PrintStop::Fault) => if failed { 7 } else { 5 },
+        Err(PrintStop::Memory) => status::MEMORY,
+        Err(PrintStop::Fault) if failed => status::BACKING,
+        Err(PrintStop::Fault) => status::SINK,
         Ok(()) if failed => {
             tell(sink, BACKING_FAILED);
-            7
+            status::BACKING
         }
-        Ok(()) => 0,
+        Ok(()) => status::DONE,
     }
 }

@@ -1,6 +1,6 @@
 use Rattle.std.proofs.Common.{◌≡◌, ◌⊎◌, true, false, is_err, ap, sym, arith, inl, inr, ◌∙◌, ◌∷◌, []}
 use Rattle.wb_geometry.proofs.Moments.{content_kept_before}
-use Rattle.wb_tool.proofs.Servings.{session_served, put_if_fine, one_client}
+use Rattle.wb_tool.proofs.Servings.{session_served, put_or_not, put_if_fine, one_client}
 use Rattle.wb_tool.proofs.run.serve_script.Goals as goal
 use Rattle.wb_tool.proofs.run.serve_script.Goals.{then-played, else-played}
 
@@ -17,7 +17,8 @@ returns-clause-served g c some =
     _ _ _ _ c.in-Ok-vec.transcripts.items _
     (one_client _ _ (omega (arith, valid.each, valid.some, valid.few)) (rw c.requests.ensures at c.index-requests-0.is)
     ∙ ap (λ q. q ∷ []) (sym c.as_slice.ensures))
-    played c.in-Ok-vec.ensures.items c.len-places.ensures c.put_all-stored.ensures.cause.later c.if-played.failed
+    played c.in-Ok-vec.ensures.items c.len-places.ensures c.put_all-stored.ensures.cause.later
+    (content_kept_before played.content (put_or_not _ _ c.put_all-stored.ensures.ok c.put_all-stored.ensures.err)) c.if-played.failed
     (λ fine. content_kept_before played.content (put_if_fine _ _ _ _ c.put_all-stored.ensures.ok failed fine))
     (λ fine. put_if_fine _ _ _ _ c.put_all-stored.ensures.durable failed fine)
     (rw c.as_slice-2.ensures.value at c.report-status.ensures)

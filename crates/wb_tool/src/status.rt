@@ -1,0 +1,25 @@
+//! The statuses of a run (docs/SCRIPT.md).
+
+/// Done.
+pub const DONE: u8 = 0;
+
+/// There was no memory.
+pub const MEMORY: u8 = 1;
+
+/// The words are of no form.
+pub const USAGE: u8 = 2;
+
+/// The script is refused.
+pub const SCRIPT: u8 = 3;
+
+/// The source failed.
+pub const SOURCE: u8 = 4;
+
+/// The sink failed.
+pub const SINK: u8 = 5;
+
+/// The backing device failed.
+pub const BACKING: u8 = 7;
+
+/// A device has too few sectors.
+pub const SMALL: u8 = 9;
