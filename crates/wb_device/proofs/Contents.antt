@@ -33,3 +33,11 @@ write_lays_over at start n written v begins size whole inside =
     rw (drop-drop n start bytes, first, size, ← append_assoc) in
     ap sectors_of (with_items_is v _ (simp (length-append, length-take, length-drop) (omega (arith, v.ok.0))) ∙ parts)
     ∙ sectors_of-overlay at written bytes whole room
+
+-- it leaves as many bytes as there were
+pub write_keeps_length : {Z : Type 0} (at start n : ℕ) (written : List ℕ) (v : Vec ℕ Z) → start ≡ at * 512 → n ≡ length written → length written % 512 ≡ 0
+    → at + length written / 512 ≤ length v.items / 512
+    → length (with_items v (take start v.items ++ (written ++ drop n (drop start v.items)))).items ≡ length v.items
+write_keeps_length at start n written v begins size whole inside =
+    ap length (with_items_is v _ (simp (length-append, length-take, length-drop) (omega (arith, v.ok.0))))
+    ∙ simp (length-append, length-take, length-drop) (omega arith)

@@ -1,5 +1,8 @@
+pub mod Disk
 pub mod File
 pub mod Memory
+pub mod Planned
+pub mod Recorded
 pub mod Silent
 pub mod Standard
 pub mod Steady

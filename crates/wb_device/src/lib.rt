@@ -3,19 +3,25 @@
 //!
 //! A `Device` answers a fault only where its count of faults rose, and says what a crash may leave of it after each
 //! call (`wb_geometry`). `SteadyDevice`, `MemorySource` and `MemorySink` stand in memory and tell what they hold;
-//! `FileDevice`, `StdinSource` and `StdoutSink` are the adapters over the outside, of which nobody can tell.
+//! `MemoryDevice` does too, fails as planned, and crashes. `FileDevice`, `StdinSource` and `StdoutSink` are the adapters
+//! over the outside, of which nobody can tell.
 #![tactic(auto)]
 
 mod device;
+mod disk;
 mod file;
+mod medium;
 mod memory;
+mod planned;
 mod standard;
 mod steady;
 mod streams;
 
 pub use device::{Device, DeviceFault};
+pub use disk::MemoryDevice;
 pub use file::FileDevice;
 pub use memory::{MemorySink, MemorySource};
+pub use planned::{FaultPlan, PlannedFault};
 pub use standard::{StdinSource, StdoutSink};
 pub use steady::SteadyDevice;
 pub use streams::{Sink, SinkFault, Source, SourceFault};

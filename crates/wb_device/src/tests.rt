@@ -1,4 +1,7 @@
-use crate::{Device, FileDevice, MemorySink, MemorySource, Sink, Source, StdinSource, StdoutSink};
+use crate::{
+    Device, FaultPlan, FileDevice, MemoryDevice, MemorySink, MemorySource, PlannedFault, Sink,
+    Source, StdinSource, StdoutSink,
+};
 use std::io::{ErrorKind, Read, Write};
 use std::test::Fail;
 use std::{fs, io};
@@ -123,5 +126,46 @@ fn memory_fails_at_the_planned_call(rt: HostRuntime) -> Result<(), Fail> {
         assert_eq!(rt; sink.taken(), want);
         assert_eq!(rt; sink.starved(), 0);
     }
+    Ok(())
+}
+
+#[test]
+fn a_device_in_memory_fails_as_planned_and_crashes(rt: HostRuntime) -> Result<(), Fail> {
+    let alloc = rt.alloc();
+    let plan = FaultPlan {
+        faults: vec![in alloc;
+            PlannedFault {
+                call: 1,
+                sectors: 1
+            },
+        ]?,
+        stop: Some(4),
+    };
+    let mut device = MemoryDevice::of(alloc, [0; 1100].to_vec(alloc)?, plan)?;
+    assert_eq!(rt; device.sectors(), 2);
+    device.write(0, &[7; 512])?;
+    assert!(rt; device.write(0, &[9; 1024]).is_err());
+    device.write(1, &[5; 512])?;
+    let rows: [(&[u8], u8, u8); 4] = [
+        (b"", 0, 0),
+        (b"\x01", 7, 5),
+        (b"\x02\x00", 9, 0),
+        (b"\x03\x03", 0, 5),
+    ];
+    for (choice, first, second) in rows {
+        let crashed = device.crashed(alloc, choice)?;
+        assert_eq!(rt; crashed.bytes().first().copied(), Some(first));
+        assert_eq!(rt; crashed.bytes().last().copied(), Some(second));
+    }
+    device.sync()?;
+    assert!(rt; device.write(0, &[1; 512]).is_err());
+    assert!(rt; device.sync().is_err());
+    assert_eq!(rt; device.calls(), 6);
+    assert_eq!(rt; device.starved(), 0);
+    assert_eq!(rt;
+        device.crashed(alloc, b"\x01")?.bytes().first().copied(),
+        Some(9)
+    );
+    assert_eq!(rt; device.into_bytes().last().copied(), Some(5));
     Ok(())
 }

@@ -1,3 +1,4 @@
+pub mod Disks
 pub mod Histories
 pub mod Images
 pub mod Moments

@@ -1,4 +1,5 @@
 pub mod Device
+pub mod Disk
 pub mod Geometry
 pub mod Image
 pub mod History
