@@ -21,23 +21,20 @@ read_holds {s} at n start into bytes content begins size whole inside copied = r
       rw (size, same_Some x (sectors_of bytes) (sym told ∙ content)) read;
 }
 
--- a write of these bytes from `start` on
+-- a write of these bytes from `start` on, where the sector `at` begins
+pub lays_over : (at start n : ℕ) (written bytes : List ℕ) → start ≡ at * 512 → n ≡ length written → length written % 512 ≡ 0
+    → at + length written / 512 ≤ length bytes / 512
+    → sectors_of (take start bytes ++ (written ++ drop n (drop start bytes))) ≡ overlay at (sectors_of written) (sectors_of bytes)
+lays_over at start n written bytes begins size whole inside =
+    let first : start ≡ 512 * at = omega arith in
+    let room : 512 * at + length written ≤ length bytes = omega arith in
+    let parts : take start bytes ++ (written ++ drop n (drop start bytes)) ≡ take (512 * at) bytes ++ written ++ drop (512 * at + length written) bytes =
+    rw (drop-drop n start bytes, first, size, ← append_assoc) in
+    ap sectors_of parts ∙ sectors_of-overlay at written bytes whole room
+
+-- the same in a vector
 pub write_lays_over : {Z : Type 0} (at start n : ℕ) (written : List ℕ) (v : Vec ℕ Z) → start ≡ at * 512 → n ≡ length written → length written % 512 ≡ 0
     → at + length written / 512 ≤ length v.items / 512
     → sectors_of (with_items v (take start v.items ++ (written ++ drop n (drop start v.items)))).items ≡ overlay at (sectors_of written) (sectors_of v.items)
 write_lays_over at start n written v begins size whole inside =
-    let bytes = v.items in
-    let first : start ≡ 512 * at = omega arith in
-    let room : 512 * at + length written ≤ length bytes = omega (arith, v.ok.0) in
-    let parts : take start bytes ++ (written ++ drop n (drop start bytes)) ≡ take (512 * at) bytes ++ written ++ drop (512 * at + length written) bytes =
-    rw (drop-drop n start bytes, first, size, ← append_assoc) in
-    ap sectors_of (with_items_is v _ (simp (length-append, length-take, length-drop) (omega (arith, v.ok.0))) ∙ parts)
-    ∙ sectors_of-overlay at written bytes whole room
-
--- it leaves as many bytes as there were
-pub write_keeps_length : {Z : Type 0} (at start n : ℕ) (written : List ℕ) (v : Vec ℕ Z) → start ≡ at * 512 → n ≡ length written → length written % 512 ≡ 0
-    → at + length written / 512 ≤ length v.items / 512
-    → length (with_items v (take start v.items ++ (written ++ drop n (drop start v.items)))).items ≡ length v.items
-write_keeps_length at start n written v begins size whole inside =
-    ap length (with_items_is v _ (simp (length-append, length-take, length-drop) (omega (arith, v.ok.0))))
-    ∙ simp (length-append, length-take, length-drop) (omega arith)
+    ap sectors_of (with_items_is v _ (simp (length-append, length-take, length-drop) (omega (arith, v.ok.0)))) ∙ lays_over at start n written v.items begins size whole inside

@@ -1,6 +1,7 @@
 -- What is recorded of a disk, as changes, and that what a read gives follows it.
-use Rattle.std.proofs.Common.{◌≡◌, ◌-◌, ◌<◌, ◌⊎◌, get_or, append_assoc, nat_lt, ℕ, List, [], ◌∷◌, ◌++◌, ◌+◌, ◌*◌, ◌/◌, ◌%◌, ◌≤◌, length, take, drop, min, arith, length-take, Bool, true, false, if◌then◌else◌, inl, inr, sym, ◌∙◌, ap, subst}
-use Rattle.std.proofs.lemmas.List.{map-append, take_all, take_more, drop_more}
+use Rattle.std.proofs.Common.{◌≡◌, refl, ◌-◌, ◌<◌, ◌⊎◌, get_or, append_assoc, nat_lt, ℕ, List, [], ◌∷◌, ◌++◌, ◌+◌, ◌*◌, ◌/◌, ◌%◌, ◌≤◌, length, take, drop, min, arith, length-take, length-drop, Bool, true, false, if◌then◌else◌, inl, inr, sym, ◌∙◌, ap, subst}
+use Rattle.std.proofs.lemmas.List.{map-append, get_or-take, get_or-drop, take_all, take_more, drop_more}
+use Rattle.std.proofs.lemmas.List.Elements.{All-push}
 use Rattle.std.specs.List.{All, Contains}
 use Rattle.std.specs.Simd.{first_chunks}
 use Rattle.std.proofs.lemmas.Bool.{cases_lt}
@@ -9,7 +10,7 @@ use Rattle.wb_geometry.specs.Disk.{Change, Write, Sync, IsWhole, IsContent, newe
 use Rattle.wb_geometry.proofs.Images.{IsPartlyWritten-overlay, length-sectors_of, sectors_of-take, sectors_of-append}
 use Rattle.wb_geometry.proofs.Disks.{candidates-push, after_write, some_candidates, length-candidate, Contains-taken, get_or-all_candidates, length-all_candidates, IsPartlyWritten-front, IsContent-write, IsContent-sync}
 use Rattle.wb_device.specs.declared.medium.Recorded.{Recorded}
-use Rattle.wb_device.specs.Recorded.{change_of, changes_of}
+use Rattle.wb_device.specs.Recorded.{IsWithin, change_of, changes_of}
 
 pub changes_push : {items : List Recorded} (old : List Recorded) (r : Recorded) → items ≡ old ++ r ∷ [] → changes_of items ≡ changes_of old ++ change_of r ∷ []
 changes_push old r is = ap changes_of is ∙ map-append change_of old (r ∷ [])
@@ -20,6 +21,11 @@ pub recorded_sync : (b : Bool) {items : List Recorded} (old : List Recorded) (r 
 recorded_sync true old r start x sync is content =
     subst (λ (cs : List Change). IsContent start cs x) (sym (changes_push old r is ∙ ap (λ (c : Change). changes_of old ++ c ∷ []) sync)) (IsContent-sync start (changes_of old) x content)
 recorded_sync false old r start x sync is content = subst (λ (rs : List Recorded). IsContent start (changes_of rs) x) (sym is) content
+
+pub within_push : (b : Bool) {items : List Recorded} (sectors : ℕ) (old : List Recorded) (r : Recorded) → IsWithin sectors r → items ≡ (if b then old ++ r ∷ [] else old)
+    → All (IsWithin sectors) old → All (IsWithin sectors) items
+within_push true sectors old r one is within = subst (All (IsWithin sectors)) (sym is) (All-push (IsWithin sectors) old r within one)
+within_push false sectors old r one is within = subst (All (IsWithin sectors)) (sym is) within
 
 -- a write that was recorded
 pub recorded_write : {items : List Recorded} {y : Image} (old : List Recorded) (r : Recorded) (at : ℕ) (written : List ℕ) (start x : Image) → change_of r ≡ Write at (sectors_of written)
@@ -48,13 +54,40 @@ front_partly at count bytes old inside is =
     rw is (IsPartlyWritten-front at count written (sectors_of old) (overlay at (take count written) (sectors_of old))
     (IsPartlyWritten-overlay at (take count written) (sectors_of old) (omega (arith, size, length-sectors_of bytes, length-sectors_of old))))
 
+-- a read of the first so many, and of those behind them
+pub read_before : {items : List Recorded} (recorded : List Recorded) (count i : ℕ) (r : Recorded) → items ≡ recorded → i < length (take count items) → r ≡ get_or (take count items) i r
+    → (i < length recorded) × (get_or recorded i r ≡ r)
+read_before recorded count i r same below is =
+    let fewer : i < min count (length recorded) = rw (← length-take count recorded, ← same) below in
+    (omega (arith, fewer), sym (is ∙ ap (λ (rs : List Recorded). get_or (take count rs) i r) same ∙ get_or-take count recorded i r (omega (arith, fewer))))
+
+pub read_behind : {items : List Recorded} (recorded : List Recorded) (count more i : ℕ) (r : Recorded) → items ≡ recorded → i < length (take more (drop count items))
+    → r ≡ get_or (take more (drop count items)) i r → (count + i < length recorded) × (get_or recorded (count + i) r ≡ r)
+read_behind recorded count more i r same below is =
+    let read = read_before (drop count recorded) more i r (ap (λ (rs : List Recorded). drop count rs) same) below is in
+    (omega (arith, read.0, length-drop count recorded), sym (get_or-drop count recorded i r) ∙ read.1)
+
+-- what was recorded, and one more
+pub recorded_more : (recorded : List Recorded) (i : ℕ) (r : Recorded) → i < length recorded → get_or recorded i r ≡ r → take (i + 1) recorded ≡ take i recorded ++ r ∷ []
+recorded_more recorded i r below is = take_more recorded i r below ∙ ap (λ (q : Recorded). take i recorded ++ q ∷ []) is
+
+-- where there is one candidate it is the newest
+pub only_newest : (cs : Image) → length cs ≡ 1 → newest cs ∷ [] ≡ cs
+only_newest [] one = absurd (omega (arith, one))
+only_newest (s ∷ []) one = refl
+only_newest (s ∷ t ∷ cs) one = absurd (omega (arith, one))
+
 -- one more of what was recorded
 candidates_more : (index : ℕ) (recorded : List Recorded) (i : ℕ) (r : Recorded) (cs : Image) → i < length recorded → get_or recorded i r ≡ r
     → candidates index (changes_of (take (i + 1) recorded)) cs ≡ candidates_after index (change_of r) (candidates index (changes_of (take i recorded)) cs)
 candidates_more index recorded i r cs below is =
-    let more : take (i + 1) recorded ≡ take i recorded ++ r ∷ [] = take_more recorded i r below ∙ ap (λ (q : Recorded). take i recorded ++ q ∷ []) is in
-    ap (λ (changes : List Change). candidates index changes cs) (changes_push (take i recorded) r more)
+    ap (λ (changes : List Change). candidates index changes cs) (changes_push (take i recorded) r (recorded_more recorded i r below is))
     ∙ candidates-push index (changes_of (take i recorded)) (change_of r) cs
+
+-- right behind a sync each sector has one candidate
+pub alone_after_sync : (recorded : List Recorded) (i : ℕ) (r : Recorded) → i < length recorded → get_or recorded i r ≡ r → change_of r ≡ Sync
+    → (index : ℕ) (s : List ℕ) → length (candidates index (changes_of (take (i + 1) recorded)) (s ∷ [])) ≡ 1
+alone_after_sync recorded i r below is sync index s = rw (candidates_more index recorded i r (s ∷ []) below is, sync) refl
 
 pub after_sync : {last : List ℕ} (index : ℕ) (recorded : List Recorded) (i : ℕ) (r : Recorded) (cs : Image) → i < length recorded → get_or recorded i r ≡ r → change_of r ≡ Sync
     → last ≡ newest (candidates index (changes_of (take i recorded)) cs) → last ∷ [] ≡ candidates index (changes_of (take (i + 1) recorded)) cs

@@ -1,11 +1,11 @@
 -- The state of a device in memory that fails as planned, and what its calls say beside the trait's clauses.
-use Rattle.std.specs.Prelude.{ℕ, ◌≡◌, ◌⊎◌, ◌/◌, List, length, take, Option, Some, None, IsSome, IsTrue, Result, OnOk, OnErr}
+use Rattle.std.specs.Prelude.{ℕ, ◌≡◌, ◌==◌, ◌⊎◌, ◌/◌, List, [], ◌∷◌, ◌++◌, if◌then◌else◌, length, take, Option, Some, None, IsSome, IsTrue, Result, OnOk, OnErr}
 use Rattle.std.proofs.Common.{subst}
 use Rattle.wb_geometry.specs.Image.{Image, IsImage, sectors_of, overlay}
 use Rattle.wb_geometry.proofs.Images.{IsImage-sectors_of}
 use Rattle.wb_geometry.proofs.Disks.{disk_is_device}
 use Rattle.wb_geometry.specs.Device.{State, IsDevice, NothingPending, next_count}
-use Rattle.wb_geometry.specs.Disk.{Change, disk_state, choose, all_candidates}
+use Rattle.wb_geometry.specs.Disk.{Change, Write, disk_state, choose, all_candidates}
 use Rattle.wb_device.specs.Unused.{IsUnused}
 use Rattle.wb_device.specs.Planned.{planned, is_stopped}
 use Rattle.wb_device.specs.Recorded.{changes_of, IsWhole-changes}
@@ -30,7 +30,7 @@ memory_plan d = d.plan
 abbrev pub memory_calls : MemoryDevice → ℕ
 memory_calls d = d.calls
 
--- how many of them found no memory, as far
+-- how many of them found no memory, to 2 ^ 64 - 1 at most
 abbrev pub memory_starved : MemoryDevice → ℕ
 memory_starved d = d.starved
 
@@ -72,14 +72,19 @@ pub record IsNextCall (old new : MemoryDevice) : Type 0 where
 
 -- it fails where that is planned, and else only where it finds no memory
 pub record FailsAsPlanned {T E : Type 0} (old new : MemoryDevice) (result : Result T E) : Type 0 where
-  pub failed : OnErr result (IsSome (next_fault old) ⊎ Starves old new)
+  pub failed : OnErr result ((IsSome (next_fault old) × (memory_starved new ≡ memory_starved old)) ⊎ Starves old new)
   pub worked : OnOk result (next_fault old ≡ None)
   pub fed : OnOk result (memory_starved new ≡ memory_starved old)
 
--- a write that fails as planned has stored so many of its leading sectors, or found no memory
+-- what a write that stores so many of its leading sectors adds
+abbrev pub stored_front : (at count : ℕ) → Image → List Change
+stored_front at count new = if count == 0 then [] else Write at (take count new) ∷ []
+
+-- a write that fails as planned has stored so many of its leading sectors and recorded these alone, or found no memory
 abbrev pub StoresFront : (at : ℕ) (bytes : List ℕ) (old new : MemoryDevice) → Type 0
 StoresFront at bytes old new = (count : ℕ) → next_fault old ≡ Some count
-    → (memory_content new ≡ overlay at (take count (sectors_of bytes)) (memory_content old)) ⊎ Starves old new
+    → ((memory_content new ≡ overlay at (take count (sectors_of bytes)) (memory_content old))
+    × (memory_changes new ≡ memory_changes old ++ stored_front at count (sectors_of bytes))) ⊎ Starves old new
 
 -- from the stop on a call does nothing
 abbrev pub StopsThere : (old new : MemoryDevice) → Type 0
@@ -90,4 +95,5 @@ pub record IsFresh (d : MemoryDevice) : Type 0 where
   pub unused : IsUnused (memory_state d)
   pub calls : memory_calls d ≡ 0
   pub starved : memory_starved d ≡ 0
+  pub changes : memory_changes d ≡ []
   pub durable : NothingPending (memory_state d)

@@ -1,5 +1,5 @@
 -- What was done to a disk, as changes of it.
-use Rattle.std.specs.Prelude.{ℕ, List, map, slice_index_or}
+use Rattle.std.specs.Prelude.{ℕ, ◌≡◌, ◌+◌, ◌/◌, ◌%◌, ◌≤◌, List, length, map, slice_index_or}
 use Rattle.std.specs.List.{All}
 use Rattle.std.proofs.Common.{sym, subst}
 use Rattle.std.proofs.lemmas.List.Elements.{All-map}
@@ -15,6 +15,20 @@ change_of Synced = Sync
 
 abbrev pub changes_of : List Recorded → List Change
 changes_of recorded = map change_of recorded
+
+-- the first sector behind what it writes
+abbrev pub end_of : Recorded → ℕ
+end_of (Written at bytes) = at + length bytes.items / 512
+end_of Synced = 0
+
+-- how many bytes it writes behind its whole sectors
+abbrev pub rest_of : Recorded → ℕ
+rest_of (Written at bytes) = length bytes.items % 512
+rest_of Synced = 0
+
+-- it writes whole sectors, within so many
+abbrev pub IsWithin : ℕ → Recorded → Type 0
+IsWithin sectors r = (rest_of r ≡ 0) × (end_of r ≤ sectors)
 
 -- each writes whole sectors
 

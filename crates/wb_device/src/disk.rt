@@ -120,10 +120,11 @@ impl MemoryDevice {
 }
 
 impl Device for MemoryDevice {
-    ghost use Rattle.std.specs.Prelude.{◌≡◌, ◌≤◌, OnOk, OnErr};
+    ghost use Rattle.std.specs.Prelude.{◌≡◌, ◌≤◌, ◌++◌, ◌∷◌, [], IsSome, OnOk, OnErr};
     ghost use Rattle.wb_geometry.specs.Image.{Image, sectors_of, overlay, IsPartlyWritten};
     ghost use Rattle.wb_geometry.specs.Device.{IsInside, IsSameDevice, HasCause, HoldsContent, NothingPending, ContentPasses, Passes, next_count};
-    ghost use Rattle.wb_device.specs.Disk.{memory_state, memory_is_device, memory_starved, FailsAsPlanned, IsNextCall, StopsThere, StoresFront};
+    ghost use Rattle.wb_geometry.specs.Disk.{Write, Sync};
+    ghost use Rattle.wb_device.specs.Disk.{memory_state, memory_is_device, memory_changes, memory_starved, next_fault, FailsAsPlanned, IsNextCall, StopsThere, StoresFront};
 
     ghost state = { memory_state };
 
@@ -144,21 +145,23 @@ impl Device for MemoryDevice {
         ensures same { IsSameDevice (memory_state self.old) (memory_state self.new) }
         ensures cause { HasCause (memory_state self.old) (memory_state self.new) result }
 
-        // It fails where that is planned, and else only where it finds no memory.
+        // It fails where that is planned, and nowhere else.
         ensures planned { FailsAsPlanned self.old self.new result }
+        ensures planned_only { OnErr result (IsSome (next_fault self.old)) }
         ensures next { IsNextCall self.old self.new }
         ensures stopped { StopsThere self.old self.new }
         ensures starved { memory_starved self.new ≡ memory_starved self.old }
+
+        // It records nothing.
+        ensures changes { memory_changes self.new ≡ memory_changes self.old }
     {
         self.reads = self.reads.saturating_add(1);
-        match self.begun() {
-            Some(_) => self.failed(),
-            None => {
-                let start = at as usize * SECTOR_BYTES;
-                into.copy_from_slice(&self.medium.bytes()[start..start + into.len()]);
-                Ok(())
-            }
+        if self.begun().is_some() {
+            return self.failed();
         }
+        let start = at as usize * SECTOR_BYTES;
+        into.copy_from_slice(&self.medium.bytes()[start..start + into.len()]);
+        Ok(())
     }
 
     fn write(&mut self, at: u64, bytes: &[u8]) -> Result<(), DeviceFault>
@@ -176,6 +179,9 @@ impl Device for MemoryDevice {
         ensures next { IsNextCall self.old self.new }
         ensures stopped { StopsThere self.old self.new }
         ensures front { StoresFront at bytes.now self.old self.new }
+
+        // It records what it wrote, and nothing else.
+        ensures recorded { OnOk result (memory_changes self.new ≡ memory_changes self.old ++ Write at (sectors_of bytes.now) ∷ []) }
     {
         match self.begun() {
             None => match self.medium.store(at, bytes) {
@@ -205,6 +211,10 @@ impl Device for MemoryDevice {
         ensures planned { FailsAsPlanned self.old self.new result }
         ensures next { IsNextCall self.old self.new }
         ensures stopped { StopsThere self.old self.new }
+
+        // It records that it was done, and nothing else.
+        ensures recorded { OnOk result (memory_changes self.new ≡ memory_changes self.old ++ Sync ∷ []) }
+        ensures not_recorded { OnErr result (memory_changes self.new ≡ memory_changes self.old) }
     {
         match self.begun() {
             None => match self.medium.keep() {

@@ -1,8 +1,9 @@
 //! What a disk holds, and what was done to it.
-ghost use Rattle.std.specs.Prelude.{◌≡◌, ◌-◌, ◌<◌, ◌⊎◌, ◌+◌, map, IfOk, MatchOption, slice_index, ◌/◌, ◌%◌, ◌≤◌, ◌++◌, ◌∷◌, [], length, take, OnOk, OnErr};
+ghost use Rattle.std.specs.Prelude.{◌≡◌, ◌-◌, ◌<◌, ◌⊎◌, ◌+◌, map, IfOk, MatchOption, slice_index, ◌/◌, ◌%◌, ◌≤◌, ◌++◌, ◌∷◌, [], ℕ, List, length, take, OnOk, OnErr};
+ghost use Rattle.std.specs.List.{All};
 ghost use Rattle.wb_geometry.specs.Image.{sector, sectors_of, overlay};
 ghost use Rattle.wb_geometry.specs.Disk.{IsContent, Write, Sync, candidates, choose, all_candidates};
-ghost use Rattle.wb_device.specs.Recorded.{changes_of};
+ghost use Rattle.wb_device.specs.Recorded.{changes_of, IsWithin};
 
 use std::alloc::{AllocError, Global};
 
@@ -24,6 +25,7 @@ pub(crate) struct Medium {
     bytes: Vec<u8>,
     ghost whole: { length bytes.items % 512 ≡ 0 },
     ghost size: { length first.items ≡ length bytes.items },
+    ghost within: { All (IsWithin (length first.items / 512)) recorded.items },
     ghost content: { IsContent (sectors_of first.items) (changes_of recorded.items) (sectors_of bytes.items) },
 }
 
@@ -51,6 +53,17 @@ fn taken(choice: &[u8], i: usize, count: usize) -> usize
     choice[i % choice.len()] as usize % count
 }
 
+// Lays these sectors over those from sector `at` on.
+fn lay_over(onto: &mut [u8], at: u64, bytes: &[u8])
+    requires whole { length bytes.now % 512 ≡ 0 }
+    requires inside { at + length bytes.now / 512 ≤ length onto.old / 512 }
+    ensures laid { sectors_of onto.new ≡ overlay at (sectors_of bytes.now) (sectors_of onto.old) }
+    ensures size { length onto.new ≡ length onto.old }
+{
+    let start = at as usize * SECTOR_BYTES;
+    onto[start..start + bytes.len()].copy_from_slice(bytes);
+}
+
 impl Medium {
     // A disk with the whole sectors of these bytes, all of them synced.
     pub(crate) fn of(alloc: Global, mut bytes: Vec<u8>) -> Result<Medium, AllocError>
@@ -76,16 +89,55 @@ impl Medium {
         bytes
     }
 
-    // What a crash may leave in this sector: the synced content, and then what was written since, in order.
-    fn candidates<'a>(&'a self, alloc: Global, index: u64) -> Result<Vec<&'a [u8]>, AllocError>
-        requires { index < length self.now.bytes.items / 512 }
+    // How many of the changes come no later than the last sync. After so many each sector has one candidate.
+    fn synced_count(&self) -> usize
+        ensures inside { result ≤ length self.now.recorded.items }
+        ensures alone { (i : ℕ) → (s : List ℕ) → length (candidates i (changes_of (take result self.now.recorded.items)) (s ∷ [])) ≡ 1 }
+    {
+        for place in (0..self.recorded.len()).rev() {
+            if let Recorded::Synced = self.recorded[place] {
+                return place + 1;
+            }
+        }
+        0
+    }
+
+    // The bytes after so many of the changes.
+    fn bytes_after(&self, alloc: Global, count: usize) -> Result<Vec<u8>, AllocError>
+        requires { count ≤ length self.now.recorded.items }
+        ensures content { IfOk result (λ v. IsContent (sectors_of self.now.first.items) (changes_of (take count self.now.recorded.items)) (sectors_of v.items)) }
+        ensures size { IfOk result (λ v. length v.items ≡ length self.now.first.items) }
+    {
+        let mut laid = Vec::from_slice(alloc, &self.first)?;
+        for change in &self.recorded[..count] {
+            if let Recorded::Written { at, bytes } = change {
+                lay_over(&mut laid, *at, bytes);
+            }
+        }
+        Ok(laid)
+    }
+
+    // What a crash may leave in this sector: the synced content, and then what was written since, in order. It looks at
+    // the changes behind the first `count` alone: after these each sector has one candidate, the one in `synced`.
+    fn candidates<'a>(
+        &'a self,
+        alloc: Global,
+        synced: &'a [u8],
+        count: usize,
+        index: u64,
+    ) -> Result<Vec<&'a [u8]>, AllocError>
+        requires index { index < length self.now.bytes.items / 512 }
+        requires count { count ≤ length self.now.recorded.items }
+        requires alone { (i : ℕ) → (s : List ℕ) → length (candidates i (changes_of (take count self.now.recorded.items)) (s ∷ [])) ≡ 1 }
+        requires content { IsContent (sectors_of self.now.first.items) (changes_of (take count self.now.recorded.items)) (sectors_of synced.now) }
+        requires size { length synced.now ≡ length self.now.first.items }
         ensures { IfOk result (λ v. map (λ s. s.now) v.items ≡ candidates index (changes_of self.now.recorded.items) (sector (sectors_of self.now.first.items) index ∷ [])) }
     {
         let start = index as usize * SECTOR_BYTES;
-        let mut newest = &self.first[start..start + SECTOR_BYTES];
+        let mut newest = &synced[start..start + SECTOR_BYTES];
         let mut found = Vec::new(alloc);
         found.push(newest)?;
-        for change in &self.recorded {
+        for change in &self.recorded[count..] {
             match change {
                 Recorded::Synced => {
                     found.clear();
@@ -106,10 +158,12 @@ impl Medium {
     pub(crate) fn crashed(&self, alloc: Global, choice: &[u8]) -> Result<Vec<u8>, AllocError>
         ensures { IfOk result (λ v. sectors_of v.items ≡ choose choice.now 0 (all_candidates (sectors_of self.now.first.items) (changes_of self.now.recorded.items))) }
     {
+        let count = self.synced_count();
+        let synced = self.bytes_after(alloc, count)?;
         let mut image = Vec::new(alloc);
         let mut written = 0;
         for index in 0..self.sectors() {
-            let candidates = self.candidates(alloc, index)?;
+            let candidates = self.candidates(alloc, &synced, count, index)?;
             let at = taken(choice, written, candidates.len());
             image.extend_from_slice(candidates[at])?;
             if candidates.len() > 1 {
@@ -146,8 +200,7 @@ impl Medium {
     {
         let copy = Vec::from_slice(self.alloc, bytes)?;
         self.recorded.push(Recorded::Written { at, bytes: copy })?;
-        let start = at as usize * SECTOR_BYTES;
-        self.bytes[start..start + bytes.len()].copy_from_slice(bytes);
+        lay_over(&mut self.bytes, at, bytes);
         Ok(())
     }
 

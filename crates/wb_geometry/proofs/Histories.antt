@@ -2,7 +2,6 @@
 use Rattle.std.proofs.Common.{ℕ, suc, zero, ◌≡◌, ◌≢◌, ◌+◌, ◌-◌, ◌*◌, ◌/◌, ◌<◌, ◌≤◌, List, [], ◌∷◌, ◌++◌, map, length, get_or, take, drop, max, replicate, inl, inr, Option, Some, None, refl, ap, sym, ◌∙◌, subst, arith}
 use Rattle.std.specs.List.{All, enumerate_from, range_with_len, sum_by}
 use Rattle.std.specs.Int.{bit_at}
-use Rattle.std.specs.Simd.{first_chunks}
 use Rattle.std.proofs.lemmas.Bool.{cases_lt, cases_eq, cond-false, ne_eqb}
 use Rattle.std.proofs.lemmas.Bool.Decides.{nat_tests}
 use Rattle.std.proofs.lemmas.List.Elements.{All-nil, All-cons}
@@ -13,7 +12,7 @@ use Rattle.std.proofs.lemmas.List.FromFn.{length-enumerate_from, get_or-enumerat
 use Rattle.wb_geometry.specs.declared.request.Part.{Part}
 use Rattle.wb_geometry.specs.Image.{Image, IsImage, sector, sectors_of, bytes_of, bytes_at, overlay}
 use Rattle.wb_geometry.specs.History.{HistoryEntry, Write, Void, written, standing, put, after, later, last_write}
-use Rattle.wb_geometry.proofs.Images.{length-sectors_of, sector-sectors_of, length-overlay, sector-overlay_before, sector-overlay_inside, sector-overlay_behind}
+use Rattle.wb_geometry.proofs.Images.{length-sectors_of, sector-sectors_of, sectors_of-one, length-overlay, sector-overlay_before, sector-overlay_inside, sector-overlay_behind}
 use Rattle.wb_geometry.specs.Requests.{part_in, blocks_touched, parts, entry_of, entries_of}
 
 -- an entry keeps the number of sectors
@@ -202,11 +201,6 @@ pub entries_of-one : (client s : ℕ) (bytes : List ℕ) → length bytes ≡ 51
 entries_of-one client s bytes size =
     ap (λ (ps : List Part). entries_of client ps bytes) (parts-one s)
     ∙ ap (λ (b : List ℕ). entry_of client (part_in s 1 (s / 8)) b ∷ []) (take_all _ bytes (omega (arith, count_one s)))
-
--- 512 bytes are one sector
-pub sectors_of-one : (bytes : List ℕ) → length bytes ≡ 512 → sectors_of bytes ≡ bytes ∷ []
-sectors_of-one bytes size =
-    ap (λ (n : ℕ). first_chunks 512 (n / 512) bytes) size ∙ ap (λ (b : List ℕ). b ∷ []) (take_all 512 bytes (omega arith))
 
 -- the entry of a write of sector s writes its bytes there
 pub written-one_same : (client s : ℕ) (bytes : List ℕ) → length bytes ≡ 512 → written s (entry_of client (part_in s 1 (s / 8)) bytes) ≡ Some bytes

@@ -1,11 +1,11 @@
 -- Images made of bytes, and images with some sectors laid over them.
-use Rattle.std.proofs.Common.{◌≡◌, ℕ, zero, suc, ◌+◌, ◌-◌, ◌*◌, ◌/◌, ◌%◌, ◌<◌, ◌≤◌, List, [], ◌∷◌, ◌++◌, length, get_or, take, drop, refl, sym, ◌∙◌, ap, inl, inr, arith, rules, length-append, length-take, length-drop}
+use Rattle.std.proofs.Common.{◌≡◌, ◌⊎◌, ℕ, zero, suc, ◌+◌, ◌-◌, ◌*◌, ◌/◌, ◌%◌, ◌<◌, ◌≤◌, List, [], ◌∷◌, ◌++◌, length, get_or, take, drop, refl, sym, ◌∙◌, ap, inl, inr, arith, rules, length-append, length-take, length-drop}
 use Rattle.std.specs.List.{flat_map}
 use Rattle.std.specs.Simd.{first_chunks}
 use Rattle.std.proofs.Math.Seq.{take-add}
 use Rattle.std.proofs.lemmas.Bool.{cases_lt}
-use Rattle.std.proofs.lemmas.List.{nil_from_length, take_all, length-take-le, drop-drop, take-append-le, drop-append-le, take-take, drop-take, places}
-use Rattle.wb_geometry.specs.Image.{Image, IsImage, sector, sectors_of, bytes_of, bytes_at, overlay, IsPartlyWritten}
+use Rattle.std.proofs.lemmas.List.{nil_from_length, take_all, length-take-le, drop-drop, take-append-le, drop-append-le, take-take, drop-take, ext_get_or, places}
+use Rattle.wb_geometry.specs.Image.{Image, IsImage, sector, sectors_of, bytes_of, bytes_at, overlay, IsPartlyWritten, Replaces, ReplacesOrNot}
 
 -- chunks of any size
 
@@ -86,6 +86,11 @@ bytes_at-sectors_of bytes at count inside =
     ap (λ (x : Image). bytes_of (take count x)) (drop-first_chunks 512 at sectors bytes)
     ∙ ap bytes_of (take-first_chunks 512 count (sectors - at) (drop (512 * at) bytes) (omega arith))
     ∙ flat_map-first_chunks 512 count (drop (512 * at) bytes)
+
+-- 512 bytes are one sector
+pub sectors_of-one : (bytes : List ℕ) → length bytes ≡ 512 → sectors_of bytes ≡ bytes ∷ []
+sectors_of-one bytes size =
+    ap (λ (n : ℕ). first_chunks 512 (n / 512) bytes) size ∙ ap (λ (b : List ℕ). b ∷ []) (take_all 512 bytes (omega arith))
 
 -- the sectors of a part
 
@@ -180,3 +185,59 @@ IsImage-partly_written count many at written x y some new old = record {
 pub IsImage-overlay : (count many at : ℕ) (written x : Image) → at + many ≤ count → IsImage many written → IsImage count x → IsImage count (overlay at written x)
 IsImage-overlay count many at written x inside new old =
     IsImage-partly_written count many at written x (overlay at written x) (IsPartlyWritten-overlay at written x (omega arith)) new old
+
+-- a write of one sector
+
+written_one : (at : ℕ) (new : List ℕ) (i : ℕ) → length new ≡ 512 → at ≤ i → i < at + length (sectors_of new) → (i ≡ at) × (sector (sectors_of new) (i - at) ≡ new)
+written_one at new i size from below =
+    let one : sectors_of new ≡ new ∷ [] = sectors_of-one new size in
+    let here : i ≡ at = omega (arith, ap length one) in
+    let first : i - at ≡ 0 = omega arith in
+    (here, ap (sector (sectors_of new)) first ∙ ap (λ (x : Image). sector x 0) one)
+
+replaced_or_not : (at : ℕ) (new : List ℕ) (x y : Image) → length y ≡ length x → ((i : ℕ) → (sector y i ≡ sector x i) ⊎ ((i ≡ at) × (sector y i ≡ new))) → ReplacesOrNot at new x y
+replaced_or_not at new x y size each = elim (each at) [
+  | inl same ↦ inl (ext_get_or [] y x size (λ i below. elim (each i) [
+    | inl kept ↦ kept
+    | inr put ↦ ap (sector y) put.0 ∙ same ∙ ap (sector x) (sym put.0)
+  ]))
+  | inr there ↦ inr (record {
+    others = record {
+      size = size;
+      others = λ i other. elim (each i) [
+        | inl kept ↦ kept
+        | inr put ↦ absurd (other put.0)
+      ];
+    };
+    there = there.1;
+  })
+]
+
+-- It is there, or the image is what it was.
+pub ReplacesOrNot-partly_written : (at : ℕ) (new : List ℕ) (x y : Image) → length new ≡ 512 → IsPartlyWritten at (sectors_of new) x y → ReplacesOrNot at new x y
+ReplacesOrNot-partly_written at new x y size some = replaced_or_not at new x y some.size (λ i. elim (some.each i) [
+  | inl kept ↦ inl kept
+  | inr put ↦
+      let one = written_one at new i size put.0 put.1 in
+      inr (one.0, put.2 ∙ one.1)
+])
+
+-- where the write is whole, it is there
+pub Replaces-overlay : (at : ℕ) (new : List ℕ) (x : Image) → length new ≡ 512 → at < length x → Replaces at new x (overlay at (sectors_of new) x)
+Replaces-overlay at new x size inside =
+    let count : length (sectors_of new) ≡ 1 = ap length (sectors_of-one new size) in
+    record {
+      others = record {
+        size = length-overlay at (sectors_of new) x (omega arith);
+        others = λ i other. elim (cases_lt i at) [
+          | inl before ↦ sector-overlay_before at (sectors_of new) x i (omega arith) before
+          | inr from ↦ elim (cases_lt i (at + length (sectors_of new))) [
+            | inl below ↦ absurd (other (written_one at new i size from below).0)
+            | inr behind ↦ sector-overlay_behind at (sectors_of new) x i (omega arith) behind
+          ]
+        ];
+      };
+      there =
+          sector-overlay_inside at (sectors_of new) x at (omega arith) (omega arith) (omega arith)
+          ∙ (written_one at new at size (omega arith) (omega arith)).1;
+    }

@@ -1,4 +1,5 @@
 pub mod Disks
+pub mod Geometries
 pub mod Histories
 pub mod Images
 pub mod Moments

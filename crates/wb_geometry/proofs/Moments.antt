@@ -1,8 +1,9 @@
 -- How one call follows another: moments, the images that a crash may leave, contents and counts.
 use Rattle.std.proofs.Common.{◌≡◌, ◌⊎◌, ℕ, ◌≤◌, List, Some, Ok, Err, Result, OnOk, OnErr, refl, sym, ◌∙◌, subst, inl, inr, arith}
+use Rattle.std.proofs.lemmas.Bool.{cases_Bool}
 use Rattle.std.proofs.lemmas.Option.{same_Some}
 use Rattle.wb_geometry.specs.Image.{Image}
-use Rattle.wb_geometry.specs.Device.{State, next_count, Rose, CountsFaults, IsNotAfter, NothingPending, Passes, ContentPasses, IsSameDevice, IsDevice}
+use Rattle.wb_geometry.specs.Device.{State, next_count, Rose, CountsFaults, IsNotAfter, NothingPending, Passes, ContentPasses, IsSameDevice, OnlyRead, IsUncalled, IsDevice}
 
 -- moments
 
@@ -35,16 +36,17 @@ weaker wider pass = record {
   keeps = pass.keeps;
 }
 
--- One call after another. A crash between the two leaves what the first step makes, so the whole step covers it alone too.
-pub joined : {First Second Whole : Image → Image → Type 0} {old mid new : State}
-    → ((x y : Image) → old.leaves_now x → First x y → Whole x y)
+-- One call after another. A crash during the first leaves what it does in its course (Early); what it leaves between the
+-- two (First) may be less.
+pub joined_between : {Early First Second Whole : Image → Image → Type 0} {old mid new : State}
+    → ((x y : Image) → old.leaves_now x → Early x y → Whole x y)
     → ((x y z : Image) → old.leaves_now x → First x y → Second y z → Whole x z)
-    → Passes First old mid → Passes Second mid new → Passes Whole old new
-joined alone both first second = record {
+    → Passes Early old mid → ((y : Image) → mid.leaves_now y → (x : Image) × old.leaves_now x × First x y) → Passes Second mid new → Passes Whole old new
+joined_between alone both first between second = record {
   later = moment_trans first.later second.later;
   now = λ z left.
       let step = second.now z left in
-      let from = first.now step.0 step.1 in
+      let from = between step.0 step.1 in
       (from.0, from.1, both from.0 step.0 z from.1 from.2 step.2);
   since = λ m z le left. elim (second.since m z (moment_trans le first.later) left) [
     | inl earlier ↦ elim (first.since m z le earlier) [
@@ -52,11 +54,28 @@ joined alone both first second = record {
       | inr from ↦ inr (from.0, from.1, alone from.0 z from.1 from.2)
     ]
     | inr step ↦
-        let from = first.now step.0 step.1 in
+        let from = between step.0 step.1 in
         inr (from.0, from.1, both from.0 step.0 z from.1 from.2 step.2)
   ];
   keeps = λ m y le left. second.keeps m y (moment_trans le first.later) (first.keeps m y le left);
 }
+
+-- A crash between the two leaves what the first step makes, so the whole step covers it alone too.
+pub joined : {First Second Whole : Image → Image → Type 0} {old mid new : State}
+    → ((x y : Image) → old.leaves_now x → First x y → Whole x y)
+    → ((x y z : Image) → old.leaves_now x → First x y → Second y z → Whole x z)
+    → Passes First old mid → Passes Second mid new → Passes Whole old new
+joined alone both first second = joined_between alone both first first.now second
+
+-- A call after which nothing is pending leaves the content alone, so what a crash leaves then comes by the content's step.
+pub settled : {Step : Image → Image → Type 0} {old new : State} {y : Image}
+    → IsDevice old → IsDevice new → IsSameDevice old new → NothingPending new → ContentPasses Step old new → new.leaves_now y → (x : Image) × old.leaves_now x × Step x y
+settled {old} {new} {y} before after same nothing pass left = elim (cases_Bool old.tells_images) [
+  | inl tells ↦
+      let from = pass.from y (nothing.only y left) in
+      (from.0, before.left tells from.0 from.1, from.2)
+  | inr silent ↦ absurd (after.untold (same.told ∙ silent) new.moment y (after.counts_now new.moment y (moment_same new.moment) left))
+]
 
 -- then a call that changes nothing
 pub joined_same : {Step : Image → Image → Type 0} {old mid new : State} → Passes Step old mid → Passes (λ x y. y ≡ x) mid new → Passes Step old new
@@ -130,6 +149,20 @@ same_device s = record { size = refl; told = refl }
 
 pub same_device_trans : {old mid new : State} → IsSameDevice old mid → IsSameDevice mid new → IsSameDevice old new
 same_device_trans first second = record { size = second.size ∙ first.size; told = second.told ∙ first.told }
+
+-- reads alone
+
+pub only_read : (s : State) → OnlyRead s s
+only_read s = record {
+  content = refl;
+  crash = passes_same (λ x left. refl);
+  left = λ x left. left;
+  syncs = refl;
+  same = same_device s;
+}
+
+pub uncalled : (s : State) → IsUncalled s s
+uncalled s = record { only_read = only_read s; faults = refl; reads = refl }
 
 -- counts
 

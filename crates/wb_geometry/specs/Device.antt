@@ -33,6 +33,12 @@ pub record CountsFaults {T E : Type 0} (before now : ℕ) (result : Result T E) 
 abbrev pub HasCause : {T E : Type 0} → State → State → Result T E → Type 0
 HasCause old new result = CountsFaults old.faults new.faults result
 
+-- The same of a call that may also end in another way: the count rose where a fault ended it, and else it stays.
+pub record CountsFaultsWhere (Failed : Type 0) (before now : ℕ) : Type 0 where
+  pub later : before ≤ now
+  pub failed : Failed → Rose before now
+  pub kept : (Failed → ⊥) → now ≡ before
+
 -- moment m is no later than n: it has as many parts, each no later
 pub record IsNotAfter (m n : List ℕ) : Type 0 where
   pub parts : length m ≡ length n
@@ -42,13 +48,19 @@ pub record IsNotAfter (m n : List ℕ) : Type 0 where
 pub record NothingPending (s : State) : Type 0 where
   pub only : (x : Image) → s.leaves_now x → s.content ≡ Some x
 
--- From old to new, a crash leaves what it might have left before, or that after the step.
+-- From old to new, by a step: a crash now leaves what comes by the step from an image that it might have left at old;
+-- and one at a moment before now leaves such an image, or what it had left before. So the step relates an image to
+-- itself too, wherever nothing may have been done yet.
 pub record Passes (Step : Image → Image → Type 0) (old new : State) : Type 0 where
   pub later : IsNotAfter old.moment new.moment
   pub now : (y : Image) → new.leaves_now y → (x : Image) × old.leaves_now x × Step x y
   pub since : (m : List ℕ) (y : Image) → IsNotAfter m old.moment → new.left_since m y
       → old.left_since m y ⊎ ((x : Image) × old.leaves_now x × Step x y)
   pub keeps : (m : List ℕ) (y : Image) → IsNotAfter m old.moment → old.left_since m y → new.left_since m y
+
+-- each image that a crash at some moment from old to new may have left has P
+pub record LeavesOnly (P : Image → Type 0) (old new : State) : Type 0 where
+  pub each : (x : Image) → new.left_since old.moment x → P x
 
 -- where the old content is told, so is the new one, and the step leads from the one to the other; and the other way round
 pub record ContentPasses (Step : Image → Image → Type 0) (old new : State) : Type 0 where
@@ -59,6 +71,20 @@ pub record ContentPasses (Step : Image → Image → Type 0) (old new : State) :
 pub record IsSameDevice (old new : State) : Type 0 where
   pub size : new.sectors ≡ old.sectors
   pub told : new.tells_images ≡ old.tells_images
+
+-- only reads were made: neither the content changed nor what a crash may leave
+pub record OnlyRead (old new : State) : Type 0 where
+  pub content : new.content ≡ old.content
+  pub crash : Passes (λ x y. y ≡ x) old new
+  pub left : (x : Image) → old.leaves_now x → new.leaves_now x
+  pub syncs : new.syncs ≡ old.syncs
+  pub same : IsSameDevice old new
+
+-- nothing shows that it was called: only reads could have been made, and neither they nor faults were counted
+pub record IsUncalled (old new : State) : Type 0 where
+  pub only_read : OnlyRead old new
+  pub faults : new.faults ≡ old.faults
+  pub reads : new.reads ≡ old.reads
 
 -- whole sectors, at least one, inside the device
 pub record IsInside (at : ℕ) (bytes : List ℕ) (s : State) : Type 0 where

@@ -34,3 +34,17 @@ overlay at written x = take at x ++ written ++ drop (at + length written) x
 pub record IsPartlyWritten (at : ℕ) (written x y : Image) : Type 0 where
   pub size : length y ≡ length x
   pub each : (i : ℕ) → (sector y i ≡ sector x i) ⊎ ((at ≤ i) × (i < at + length written) × (sector y i ≡ sector written (i - at)))
+
+-- y is x but for the named sectors
+pub record IsSameBut (Named : ℕ → Type 0) (x y : Image) : Type 0 where
+  pub size : length y ≡ length x
+  pub others : (i : ℕ) → (Named i → ⊥) → sector y i ≡ sector x i
+
+-- y is x with this content in one sector
+pub record Replaces (at : ℕ) (new : List ℕ) (x y : Image) : Type 0 where
+  pub others : IsSameBut (λ i. i ≡ at) x y
+  pub there : sector y at ≡ new
+
+-- y is x, or x with this content in one sector
+abbrev pub ReplacesOrNot : (at : ℕ) (new : List ℕ) → Image → Image → Type 0
+ReplacesOrNot at new x y = (y ≡ x) ⊎ Replaces at new x y

@@ -3,4 +3,5 @@ pub mod Disk
 pub mod Geometry
 pub mod Image
 pub mod History
+pub mod Layout
 pub mod Requests

@@ -32,9 +32,13 @@ pub enum GeometryRefused {
     Backing(u64),
 }
 
+/// Where the slots begin, behind the superblock and the record.
+const FIRST_SLOT: u64 = 2048;
+
 impl Geometry {
-    ghost use Rattle.std.specs.Prelude.{◌≡◌, IfOk, IfErr};
+    ghost use Rattle.std.specs.Prelude.{◌≡◌, ◌≤◌, IfOk, IfErr};
     ghost use Rattle.wb_geometry.specs.Geometry.{Refuses};
+    ghost use Rattle.wb_geometry.specs.Layout.{slot_sectors, log_sectors, slot_start};
 
     /// The geometry of these numbers, or the first of them, in this order, that is out of its range.
     pub fn new(
@@ -68,6 +72,28 @@ impl Geometry {
             backing_sectors,
         })
     }
+
+    /// The sectors of a slot of the log.
+    pub fn slot_sectors(&self) -> u64
+        ensures { result ≡ slot_sectors self.now }
+    {
+        1 << self.order
+    }
+
+    /// The sectors of the log, with all of its slots.
+    pub fn log_sectors(&self) -> u64
+        ensures { result ≡ log_sectors self.now }
+    {
+        FIRST_SLOT + self.slot_sectors() * u64::from(self.slots)
+    }
+
+    /// The sector where the slot of segment `id` begins. Segments are numbered from 1, and take the slots in turn.
+    pub fn slot_start(&self, id: u64) -> u64
+        requires { 1 ≤ id }
+        ensures { result ≡ slot_start self.now id }
+    {
+        FIRST_SLOT + self.slot_sectors() * ((id - 1) % u64::from(self.slots))
+    }
 }
 
 #[cfg(test)]
@@ -96,5 +122,16 @@ mod tests {
             let made = Geometry::new(order, slots, ram, sectors);
             assert_eq!(rt; made.err(), refused, "of {order} {slots} {ram} {sectors}");
         }
+    }
+
+    #[test]
+    fn segments_take_the_slots_in_turn(rt: HostRuntime) -> Result<(), GeometryRefused> {
+        let geometry = Geometry::new(5, 4, 2, 64)?;
+        assert_eq!(rt; geometry.slot_sectors(), 32);
+        assert_eq!(rt; geometry.log_sectors(), 2176);
+        for (id, start) in [(1, 2048), (2, 2080), (4, 2144), (5, 2048), (u64::MAX, 2112)] {
+            assert_eq!(rt; geometry.slot_start(id), start, "of segment {id}");
+        }
+        Ok(())
     }
 }

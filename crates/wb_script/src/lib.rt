@@ -11,7 +11,7 @@ mod request;
 mod script;
 mod transcript;
 
-pub use parsing::parse;
+pub use parsing::{number, parse};
 pub use printing::{PrintStop, print};
 pub use refusal::{Cause, ParseStop, ScriptRefused};
 pub use request::{Pattern, Request};

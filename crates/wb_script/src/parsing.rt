@@ -15,7 +15,8 @@ use lines::{first_line, line_count};
 use requests::{LineStop, read_request};
 use std::alloc::{AllocFailed, Global};
 use wb_geometry::Geometry;
-use words::{Words, is, number};
+pub use words::number;
+use words::{Words, is};
 
 /// The most bytes of a script.
 const MOST_BYTES: usize = 67_108_864;

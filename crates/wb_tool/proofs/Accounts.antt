@@ -1,87 +1,68 @@
 -- Lemmas on what a run answers for.
-use Rattle.std.proofs.Common.{◌≡◌, ◌⊎◌, ◌<◌, ◌≤◌, List, [], ℕ, ap, subst, ◌∙◌, arith, inl, inr, Option, Some, None, IfSome}
-use Rattle.wb_geometry.specs.Device.{State}
+use Rattle.std.proofs.Common.{◌≡◌, ◌≢◌, ◌⊎◌, ◌<◌, ◌≤◌, List, [], ℕ, ap, sym, subst, ◌∙◌, arith, inl, inr, refl, Option, Some, None, IfSome, Result, Ok, Err}
+use Rattle.wb_geometry.specs.Device.{State, IsDevice, OnlyRead, CountsFaultsWhere}
+use Rattle.wb_geometry.proofs.Moments.{uncalled}
+use Rattle.wb_super.specs.Found.{IsSuper}
+use Rattle.wb_super.specs.Found as super
+use Rattle.wb_super.specs.declared.reading.Super.{Super}
+use Rattle.wb_super.specs.declared.reading.SuperRefused.{SuperRefused}
+use Rattle.wb_super.specs.declared.reading.SuperRefused.TheVariants as refused
+use Rattle.wb_script.specs.Grammar.{IsTheScript, IsTheRefusal}
 use Rattle.wb_script.specs.Content.{ScriptContent}
-use Rattle.wb_script.specs.Grammar.{IsScript, IsTheScript, IsTheRefusal}
 use Rattle.wb_script.specs.declared.refusal.Cause.{Cause}
 use Rattle.wb_script.specs.declared.transcript.Line.{Line}
-use Rattle.wb_tool.specs.Run.{Run, run_of, Lent, IsServe, HasNotFailed, Refuses, Took, script_bytes}
+use Rattle.wb_tool.specs.Run.{Run, run_of, Lent, HasNotFailed, IsUntouched, NoSession, lent, Refuses, Spells, Took, EndsTelling, script_bytes}
 use Rattle.wb_tool.specs.Reads.{IsRead}
-use Rattle.wb_tool.specs.Texts.{small_line, refused_line}
-use Rattle.wb_tool.specs.Served.{no_log}
-use Rattle.wb_tool.specs.Account.{IsReady, IsComplete, IsAccounted}
+use Rattle.wb_geometry.specs.declared.which.Which.TheVariants.{Backing}
+use Rattle.wb_tool.specs.Texts.{refused_line, small_line, super_line, super_status, inspected_line}
+use Rattle.wb_tool.specs.Opening.{EndsByLog, EndsByBacking}
+use Rattle.wb_tool.specs.Serve.{Serves, IsOpened, IsUnserved, ServeAccount}
+use Rattle.wb_tool.specs.Inspect.{InspectEnds, InspectAccount}
+use Rattle.wb_tool.specs.Format.{FormatAccount}
+use Rattle.wb_tool.specs.declared.command.Numbers.{Numbers}
+use Rattle.wb_tool.specs.declared.command.Command.{Command}
+use Rattle.wb_tool.specs.declared.command.Command.TheVariants.{Format, Serve, Inspect}
+use Rattle.wb_tool.specs.Commands.{SpellNumbers, IsServe, IsInspect, IsFormat, IsForm}
+use Rattle.wb_tool.specs.Account.{IsAccounted, UsageAccount}
+use Rattle.std.proofs.lemmas.Fmt.{decimal_injective}
 
--- a text and the same text
-pub took_same : (sink : Lent) (a b : List ℕ) → Took sink a → a ≡ b → Took sink b
-took_same sink a b took same = subst (Took sink) same took
+-- what was parsed is what the source told
 
-module _ (run : Run) (transcripts : run.transcripts ≡ []) (places : run.places ≡ 0) (backing : run.backing_after ≡ run.backing_before) where
-  -- the backing device has too few sectors
-  pub small_account : run.status ≡ 9 → IsServe run.words → run.backing_before.sectors < 8 → run.source.after ≡ run.source.before
-      → Took run.sink (small_line run.backing_before.sectors) → IsAccounted run
-  small_account is serve few unread took = record {
-    causes = record {
-      known = inr (inr is);
-      usage = λ s. absurd (omega arith);
-      small = λ _. (serve, few);
-      source = λ s. absurd (omega arith);
-      script = λ s. absurd (omega arith);
-      backing = λ s. absurd (omega arith);
-      sink = λ s. absurd (omega arith);
-      done = λ s. absurd (omega arith);
-      kept = λ _ _. ap (λ (state : State). state.faults) backing;
-    };
-    session = λ s. absurd (omega arith);
-    refusal = λ _ _. record {
-      transcripts = transcripts;
-      places = places;
-      content = ap (λ (state : State). state.content) backing;
-      usage = λ s. absurd (omega arith);
-      small = λ _. took;
-      source = λ s. absurd (omega arith);
-      script = λ s. absurd (omega arith);
-      unread = λ _. unread;
-    };
-  }
+told_refusal : (sectors line : ℕ) (cause : Cause) (bytes text : List ℕ) (before : Option (List ℕ)) → IfSome before (λ input. bytes ≡ script_bytes input) → text ≡ bytes
+    → IsTheRefusal sectors text line cause → IfSome before (λ input. IsTheRefusal sectors (script_bytes input) line cause)
+told_refusal sectors line cause bytes text None is same why = tt
+told_refusal sectors line cause bytes text (Some input) is same why = subst (λ (t : List ℕ). IsTheRefusal sectors t line cause) (same ∙ is) why
 
-  -- the script is refused
-  pub refused_account : run.status ≡ 3 → IsReady run → HasNotFailed run.source → (line : ℕ) (cause : Cause) → Refuses run line cause
-      → Took run.sink (refused_line line cause) → IsAccounted run
-  refused_account is ready kept line cause why took = record {
-    causes = record {
-      known = inl (omega arith);
-      usage = λ s. absurd (omega arith);
-      small = λ s. absurd (omega arith);
-      source = λ s. absurd (omega arith);
-      script = λ _. (ready, kept, (line, cause, why));
-      backing = λ s. absurd (omega arith);
-      sink = λ s. absurd (omega arith);
-      done = λ s. absurd (omega arith);
-      kept = λ _ _. ap (λ (state : State). state.faults) backing;
-    };
-    session = λ s. absurd (omega arith);
-    refusal = λ _ _. record {
-      transcripts = transcripts;
-      places = places;
-      content = ap (λ (state : State). state.content) backing;
-      usage = λ s. absurd (omega arith);
-      small = λ s. absurd (omega arith);
-      source = λ s. absurd (omega arith);
-      script = λ _. (line, cause, why, took);
-      unread = λ s. absurd (omega arith);
-    };
-  }
+pub refuses : (before after : Option (List ℕ)) (sectors : ℕ) (bytes text : List ℕ) (line : ℕ) (cause : Cause) → IsRead before after bytes → text ≡ bytes
+    → IsTheRefusal sectors text line cause → IfSome before (λ input. IsTheRefusal sectors (script_bytes input) line cause)
+refuses before after sectors bytes text line cause read same why = told_refusal sectors line cause bytes text before read.bytes_are same why
 
--- what holds of a run that isn't lent the log device holds of one that leaves it as it was
-pub log_account : (words : List (List ℕ)) (source sink : Lent) (log old new : State) (status : ℕ) (transcripts : List (List Line)) (places : ℕ)
-    → IsAccounted (run_of words source sink no_log no_log old new status transcripts places)
-    → IsAccounted (run_of words source sink log log old new status transcripts places)
-log_account words source sink log old new status transcripts places account =
-    let causes = account.causes in record {
+-- the script is refused
+pub refused_serves : (sectors : ℕ) (run : Run) → NoSession run → run.status ≡ 3 → HasNotFailed run.source → (line : ℕ) (cause : Cause) → Refuses sectors run.source line cause
+    → Took run.sink (refused_line line cause)
+    → (bytes : List ℕ) → IsRead run.source.before run.source.after bytes → Serves sectors run
+refused_serves sectors run none is kept line cause why told bytes read = record {
+  causes = record {
+    known = inr (inr (inl is));
+    source = λ s. absurd (omega arith);
+    script = λ _. (kept, (line, cause, why));
+    backing = λ s. absurd (omega arith);
+    sink = λ s. absurd (omega arith);
+    done = λ s. absurd (omega arith);
+    kept = λ _ _. none.backing.faults;
+  };
+  session = λ s. absurd (omega arith);
+  refusal = λ _. record { no_session = none; source = λ s. absurd (omega arith); read = λ _. (bytes, read.taken, read.few); script = λ _. (line, cause, why, told) };
+}
+
+-- what holds of a run that isn't lent the log device holds of one that is
+pub serves_beside : (sectors : ℕ) (source sink : Lent) (lent_before lent_after log_before log_after backing_before backing_after : State) (status : ℕ) (transcripts : List (List Line)) (places : ℕ)
+    → Serves sectors (run_of source sink lent_before lent_after backing_before backing_after status transcripts places)
+    → Serves sectors (run_of source sink log_before log_after backing_before backing_after status transcripts places)
+serves_beside sectors source sink lent_before lent_after log_before log_after backing_before backing_after status transcripts places serves =
+    let causes = serves.causes in record {
       causes = record {
         known = causes.known;
-        usage = causes.usage;
-        small = causes.small;
         source = causes.source;
         script = causes.script;
         backing = causes.backing;
@@ -89,74 +70,192 @@ log_account words source sink log old new status transcripts places account =
         done = causes.done;
         kept = causes.kept;
       };
-      session = λ began. let session = account.session began in let served = session.served in record {
-        script = session.script;
-        spelled = session.spelled;
-        at_end = session.at_end;
-        served = record {
-          history = served.history;
-          printed = served.printed;
-          only = served.only;
-          legal = served.legal;
-          unstopped = served.unstopped;
-          log_failures = omega (arith, served.log_failures);
-          backing_failures = served.backing_failures;
-          output = served.output;
-          output_cut = served.output_cut;
-          output_failed = served.output_failed;
-          changed = served.changed;
-          content = served.content;
-          durable = served.durable;
-        };
-      };
-      refusal = λ some none. let refusal = account.refusal some none in record {
-        transcripts = refusal.transcripts;
-        places = refusal.places;
-        content = refusal.content;
-        usage = refusal.usage;
-        small = refusal.small;
+      session = λ began. let session = serves.session began in
+          record { script = session.script; spelled = session.spelled; at_end = session.at_end; served = session.served };
+      refusal = λ refused. let refusal = serves.refusal refused in let none = refusal.no_session in record {
+        no_session = record { transcripts = none.transcripts; places = none.places; backing = none.backing };
         source = refusal.source;
+        read = refusal.read;
         script = refusal.script;
-        unread = refusal.unread;
       };
     }
 
--- what was parsed is what the source told
-pub refuses : (before after : Option (List ℕ)) (sectors found : ℕ) (bytes text : List ℕ) (line : ℕ) (cause : Cause) → IsRead before after bytes → text ≡ bytes → found ≡ sectors
-    → IsTheRefusal found text line cause → IfSome before (λ input. IsTheRefusal sectors (script_bytes input) line cause)
-refuses None after sectors found bytes text line cause read text_is found_is refused = tt
-refuses (Some input) after sectors found bytes text line cause read text_is found_is refused =
-    subst (λ s. IsTheRefusal s (script_bytes input) line cause) found_is
-    (subst (λ t. IsTheRefusal found t line cause) (text_is ∙ read.bytes_are) refused)
+-- where the backing device isn't called, no session begins
+pub no_session : (source sink : Lent) (log_before log_after backing : State) (status : ℕ) (transcripts : List (List Line)) (places : ℕ)
+    → transcripts ≡ [] → places ≡ 0 → NoSession (run_of source sink log_before log_after backing backing status transcripts places)
+no_session source sink log_before log_after backing status transcripts places none zero =
+    record { transcripts = none; places = zero; backing = uncalled backing }
 
-pub spells : (before after : Option (List ℕ)) (sectors found : ℕ) (bytes text : List ℕ) (script : ScriptContent) → IsRead before after bytes → text ≡ bytes → found ≡ sectors
-    → IsTheScript found text script → IfSome before (λ input. IsTheScript sectors (script_bytes input) script)
-spells None after sectors found bytes text script read text_is found_is spelled = tt
-spells (Some input) after sectors found bytes text script read text_is found_is spelled =
-    subst (λ s. IsTheScript s (script_bytes input) script) found_is
-    (subst (λ t. IsTheScript found t script) (text_is ∙ read.bytes_are) spelled)
+-- a source or a sink that nothing was done with
+pub untouched : (before : Option (List ℕ)) (faults : ℕ) → IsUntouched (lent before before faults faults)
+untouched before faults = record { bytes = refl; faults = refl }
 
--- of the statuses of a run, where all but two are ruled out
-ended : (status : ℕ) → (status ≤ 5) ⊎ (status ≡ 7) ⊎ (status ≡ 9) → (status ≡ 2 → ⊥) → (status ≡ 3 → ⊥) → (status ≡ 4 → ⊥) → (status ≡ 5 → ⊥) → (status ≡ 7 → ⊥) → (status ≡ 9 → ⊥)
-    → (status ≡ 0) ⊎ (status ≡ 1)
-ended status known two three four five seven nine = grind arith
+-- the faults of a log whose superblock is refused, by the status that tells why
 
--- the script that the source told isn't refused
-not_refused : (sectors : ℕ) (told : Option (List ℕ)) (input : List ℕ) (line : ℕ) (cause : Cause) (script : ScriptContent)
-    → IfSome told (λ bytes. IsTheRefusal sectors (script_bytes bytes) line cause) → told ≡ Some input → IsScript sectors (script_bytes input) script → ⊥
-not_refused sectors told input line cause script refused is spelled =
-    let P : Option (List ℕ) → Type 0 = λ t. IfSome t (λ bytes. IsTheRefusal sectors (script_bytes bytes) line cause) in
-    let here : IsTheRefusal sectors (script_bytes input) line cause = subst P is refused in
-    here.none script spelled
+pub faults_kept : (status before after : ℕ) → status ≢ 6 → after ≡ before → CountsFaultsWhere (status ≡ 6) before after
+faults_kept status before after other same = record {
+  later = omega (arith, same);
+  failed = λ six. absurd (other six);
+  kept = λ _. same;
+}
 
--- each status but two is ruled out
-pub complete_account : (run : Run) → IsAccounted run → IsComplete run
-complete_account run account ready input script told spelled source_kept sink_kept backing_kept =
-    let causes = account.causes in
-    ended run.status causes.known
-    (λ is. causes.usage is ready.0)
-    (λ is. let refused = (causes.script is).2 in not_refused _ _ input refused.0 refused.1 script refused.2 told spelled)
-    (λ is. source_kept (causes.source is).1)
-    (λ is. sink_kept (causes.sink is).2)
-    (λ is. backing_kept (causes.backing is).2)
-    (λ is. omega (arith, (causes.small is).1, ready.1))
+pub status_not_6 : (status known : ℕ) → known ≢ 6 → (status ≡ 1) ⊎ (status ≡ known) → status ≢ 6
+status_not_6 status known other (inl one) = λ six. omega arith
+status_not_6 status known other (inr is) = λ six. other (sym is ∙ six)
+
+faults_at : (cause : SuperRefused) (read : Result Super SuperRefused) (status before after : ℕ) → read ≡ Err cause → CountsFaultsWhere (read ≡ Err refused.Fault) before after
+    → (status ≡ 1) ⊎ (status ≡ super_status cause) → (cause ≡ refused.Fault → status ≡ 6) → CountsFaultsWhere (status ≡ 6) before after
+faults_at refused.Fault read status before after is counts known six = record { later = counts.later; failed = λ _. counts.failed is; kept = λ other. absurd (other (six refl)) }
+faults_at (refused.Small needs has) read status before after is counts known six =
+    faults_kept status before after (status_not_6 status 9 (λ e. omega arith) known) (counts.kept (λ e. let no : Err (refused.Small needs has) ≡ Err refused.Fault = sym is ∙ e in cc))
+faults_at refused.Magic read status before after is counts known six =
+    faults_kept status before after (status_not_6 status 8 (λ e. omega arith) known) (counts.kept (λ e. let no : Err refused.Magic ≡ Err refused.Fault = sym is ∙ e in cc))
+faults_at (refused.Version version) read status before after is counts known six =
+    faults_kept status before after (status_not_6 status 8 (λ e. omega arith) known) (counts.kept (λ e. let no : Err (refused.Version version) ≡ Err refused.Fault = sym is ∙ e in cc))
+faults_at (refused.Sum stored computed) read status before after is counts known six =
+    faults_kept status before after (status_not_6 status 8 (λ e. omega arith) known) (counts.kept (λ e. let no : Err (refused.Sum stored computed) ≡ Err refused.Fault = sym is ∙ e in cc))
+faults_at refused.Geometry read status before after is counts known six =
+    faults_kept status before after (status_not_6 status 8 (λ e. omega arith) known) (counts.kept (λ e. let no : Err refused.Geometry ≡ Err refused.Fault = sym is ∙ e in cc))
+faults_at (refused.Record found) read status before after is counts known six =
+    faults_kept status before after (status_not_6 status 8 (λ e. omega arith) known) (counts.kept (λ e. let no : Err (refused.Record found) ≡ Err refused.Fault = sym is ∙ e in cc))
+
+pub either_status : (status known : ℕ) (P : Type 0) → (status ≡ 1) ⊎ ((status ≡ known) × P) → (status ≡ 1) ⊎ (status ≡ known)
+either_status status known P (inl one) = inl one
+either_status status known P (inr is) = inr is.0
+
+pub faults_by : (read : Result Super SuperRefused) (cause : SuperRefused) (status before after : ℕ) (P : Type 0) → read ≡ Err cause
+    → CountsFaultsWhere (read ≡ Err refused.Fault) before after → (status ≡ 1) ⊎ ((status ≡ super_status cause) × P) → (cause ≡ refused.Fault → status ≡ 6)
+    → CountsFaultsWhere (status ≡ 6) before after
+faults_by read cause status before after P is counts known six =
+    faults_at cause read status before after is counts (either_status status (super_status cause) P known) six
+
+-- and of one that is good
+pub faults_ok : (read : Result Super SuperRefused) (found : Super) (status before after : ℕ) → read ≡ Ok found
+    → CountsFaultsWhere (read ≡ Err refused.Fault) before after → status ≢ 6 → CountsFaultsWhere (status ≡ 6) before after
+faults_ok read found status before after is counts other = faults_kept status before after other (counts.kept (λ e. let no : Ok found ≡ Err refused.Fault = sym is ∙ e in cc))
+
+-- the superblock is refused
+ends_by_log : (sink : Lent) (log : State) (status : ℕ) (cause : SuperRefused) → super.Refuses log cause
+    → (status ≡ 1) ⊎ ((status ≡ super_status cause) × Took sink (super_line cause)) → (status ≡ 1) ⊎ EndsByLog sink log status
+ends_by_log sink log status cause why (inl one) = inl one
+ends_by_log sink log status cause why (inr told) = inr (record { cause = cause; why = why; ended = told.0; told = told.1 })
+
+pub log_unserved : (run : Run) (cause : SuperRefused) → NoSession run → IsUntouched run.source → super.Refuses run.log_before cause
+    → (run.status ≡ 1) ⊎ ((run.status ≡ super_status cause) × Took run.sink (super_line cause)) → (run.status ≡ 1) ⊎ IsUnserved run ⊎ IsOpened run
+log_unserved run cause none unread why (inl one) = inl one
+log_unserved run cause none unread why (inr told) =
+    inr (inl (record { no_session = none; unread = unread; ends = inl (record { cause = cause; why = why; ended = told.0; told = told.1 }) }))
+
+-- the backing device is too small
+pub backing_unserved : (run : Run) (found : Super) → NoSession run → IsUntouched run.source → IsSuper run.log_before found
+    → (run.status ≡ 1) ⊎ EndsByBacking found.geometry.backing_sectors run.backing_before.sectors run.sink run.status → (run.status ≡ 1) ⊎ IsUnserved run ⊎ IsOpened run
+backing_unserved run found none unread super (inl one) = inl one
+backing_unserved run found none unread super (inr ends) =
+    inr (inl (record { no_session = none; unread = unread; ends = inr (found, super, ends) }))
+
+pub ends_by_backing : (needs has found : ℕ) (sink : Lent) (status code : ℕ) → found ≡ has → status ≡ code → found < needs
+    → (code ≡ 1) ⊎ ((code ≡ 9) × Took sink (small_line Backing found needs)) → (status ≡ 1) ⊎ EndsByBacking needs has sink status
+ends_by_backing needs has found sink status code same ended few (inl one) = inl (ended ∙ one)
+ends_by_backing needs has found sink status code same ended few (inr told) =
+    inr (record { few = omega (arith, same, few); ended = ended ∙ told.0; told = subst (λ (n : ℕ). Took sink (small_line Backing n needs)) same told.1 })
+
+pub backing_not_6 : (needs has : ℕ) (sink : Lent) (status : ℕ) → (status ≡ 1) ⊎ EndsByBacking needs has sink status → status ≢ 6
+backing_not_6 needs has sink status (inl one) = λ six. omega arith
+backing_not_6 needs has sink status (inr ends) = λ six. let nine = ends.ended in omega arith
+
+-- no status of a script that is served is that of a log device that failed
+pub served_not_6 : (sectors : ℕ) (run : Run) → Serves sectors run → run.status ≢ 6
+served_not_6 sectors run serves six = let known = serves.causes.known in omega (arith, known)
+
+-- inspecting
+
+pub log_inspected : (sink : Lent) (before after : State) (status : ℕ) (cause : SuperRefused) → OnlyRead before after → CountsFaultsWhere (status ≡ 6) before.faults after.faults
+    → super.Refuses before cause → (status ≡ 1) ⊎ ((status ≡ super_status cause) × Took sink (super_line cause)) → InspectEnds sink before after status
+log_inspected sink before after status cause read faults why told = record {
+  log = read;
+  faults = faults;
+  ends = elim (ends_by_log sink before status cause why told) [
+    | inl one ↦ inl one
+    | inr ends ↦ inr (inl ends)
+  ];
+}
+
+pub telling_not_1 : (sink : Lent) (status : ℕ) (text : List ℕ) → EndsTelling sink status text → status ≢ 1
+telling_not_1 sink status text (inl done) one = absurd (omega (arith, done.0))
+telling_not_1 sink status text (inr cut) one = absurd (omega (arith, cut.0))
+
+pub telling_not_6 : (sink : Lent) (status : ℕ) (text : List ℕ) → EndsTelling sink status text → status ≢ 6
+telling_not_6 sink status text (inl done) six = absurd (omega (arith, done.0))
+telling_not_6 sink status text (inr cut) six = absurd (omega (arith, cut.0))
+
+pub telling_same : (sink : Lent) (status : ℕ) (a b : List ℕ) → EndsTelling sink status a → a ≡ b → EndsTelling sink status b
+telling_same sink status a b told same = subst (EndsTelling sink status) same told
+
+pub super_inspected : (sink : Lent) (before after : State) (status : ℕ) (found : Super) (read : Result Super SuperRefused) → OnlyRead before after → read ≡ Ok found
+    → CountsFaultsWhere (read ≡ Err refused.Fault) before.faults after.faults → IsSuper before found → EndsTelling sink status (inspected_line found)
+    → InspectEnds sink before after status
+super_inspected sink before after status found read only is counts super told = record {
+  log = only;
+  faults = faults_ok read found status before.faults after.faults is counts (telling_not_6 sink status (inspected_line found) told);
+  ends = inr (inr (record { found = found; super = super; told = told }));
+}
+
+-- one account for the words
+
+-- what a run answers for that does what this command asks
+abbrev pub AccountOf : Command → Run → Type 0
+AccountOf (Format numbers) run = FormatAccount numbers run
+AccountOf Serve run = ServeAccount run
+AccountOf Inspect run = InspectAccount run
+
+-- words are of one form
+not_both : (words : List (List ℕ)) → IsServe words → IsInspect words → ⊥
+not_both words serve inspect = let same = sym serve.are ∙ inspect.are in cc
+
+serve_not_format : (numbers : Numbers) (words : List (List ℕ)) → IsServe words → IsFormat numbers words → ⊥
+serve_not_format numbers words serve format = let same = sym serve.are ∙ format.are in cc
+
+inspect_not_format : (numbers : Numbers) (words : List (List ℕ)) → IsInspect words → IsFormat numbers words → ⊥
+inspect_not_format numbers words inspect format = let same = sym inspect.are ∙ format.are in cc
+
+same_word : (order slots ram : List ℕ) (numbers : Numbers) → SpellNumbers order slots ram numbers → (o s r : List ℕ) (others : Numbers) → SpellNumbers o s r others
+    → order ≡ o → slots ≡ s → ram ≡ r → numbers ≡ others
+same_word order slots ram numbers spell o s r others other same_o same_s same_r =
+    let order_same : numbers.order ≡ others.order = decimal_injective numbers.order others.order (omega (arith, spell.order_fits.1)) (omega (arith, other.order_fits.1)) (sym spell.order_is ∙ same_o ∙ other.order_is) in
+    let slots_same : numbers.slots ≡ others.slots = decimal_injective numbers.slots others.slots (omega (arith, spell.slots_fit.1)) (omega (arith, other.slots_fit.1)) (sym spell.slots_are ∙ same_s ∙ other.slots_are) in
+    let ram_same : numbers.ram ≡ others.ram = decimal_injective numbers.ram others.ram (omega (arith, spell.ram_fits.1)) (omega (arith, other.ram_fits.1)) (sym spell.ram_is ∙ same_r ∙ other.ram_is) in
+    let made : ℕ → ℕ → ℕ → Numbers = λ a b c. record { order = a; slots = b; ram = c } in
+    ap (λ a. made a numbers.slots numbers.ram) order_same ∙ ap (λ b. made others.order b numbers.ram) slots_same ∙ ap (λ c. made others.order others.slots c) ram_same
+
+same_numbers : (words : List (List ℕ)) (numbers others : Numbers) → IsFormat numbers words → IsFormat others words → numbers ≡ others
+same_numbers words numbers others first second =
+    let same = sym first.are ∙ second.are in
+    same_word first.order first.slots first.ram numbers first.spelled second.order second.slots second.ram others second.spelled (let s = same in cc) (let s = same in cc) (let s = same in cc)
+
+pub accounted : (command : Command) (words : List (List ℕ)) (run : Run) → IsForm command words → AccountOf command run → IsAccounted words run
+accounted (Format numbers) words run form account = record {
+  usage = λ none. absurd (none (Format numbers) form);
+  serve = λ other. absurd (serve_not_format numbers words other form);
+  format = λ others other. subst (λ n. FormatAccount n run) (same_numbers words numbers others form other) account;
+  inspect = λ other. absurd (inspect_not_format numbers words other form);
+}
+accounted Serve words run form account = record {
+  usage = λ none. absurd (none Serve form);
+  serve = λ _. account;
+  format = λ numbers other. absurd (serve_not_format numbers words form other);
+  inspect = λ other. absurd (not_both words form other);
+}
+accounted Inspect words run form account = record {
+  usage = λ none. absurd (none Inspect form);
+  serve = λ other. absurd (not_both words other form);
+  format = λ numbers other. absurd (inspect_not_format numbers words form other);
+  inspect = λ _. account;
+}
+
+pub usage_accounted : (words : List (List ℕ)) (run : Run) → ((command : Command) → IsForm command words → ⊥) → UsageAccount run → IsAccounted words run
+usage_accounted words run none account = record {
+  usage = λ _. account;
+  serve = λ form. absurd (none Serve form);
+  format = λ numbers form. absurd (none (Format numbers) form);
+  inspect = λ form. absurd (none Inspect form);
+}

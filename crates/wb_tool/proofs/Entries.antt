@@ -8,7 +8,8 @@ use Rattle.std.proofs.lemmas.List.Elements.{All-contains, All-contains_itself, A
 use Rattle.std.proofs.lemmas.Grind.{reverse_onto}
 use Rattle.wb_geometry.specs.Image.{Image, sector, sectors_of, bytes_at, overlay, IsPartlyWritten}
 use Rattle.wb_geometry.specs.History.{HistoryEntry, written, standing, put, after, later, last_write}
-use Rattle.wb_geometry.proofs.Histories.{length-after, sector-after, sectors_of-one, last_write_push, after_push, bytes_at-one, bytes_at-after_one, written-one_same, written-one_other, put-one}
+use Rattle.wb_geometry.proofs.Images.{sectors_of-one}
+use Rattle.wb_geometry.proofs.Histories.{length-after, sector-after, last_write_push, after_push, bytes_at-one, bytes_at-after_one, written-one_same, written-one_other, put-one}
 use Rattle.wb_geometry.specs.Device.{State, IsDevice, IsSameDevice, Passes, ContentPasses, HoldsContent, IsInside}
 use Rattle.wb_geometry.proofs.Moments.{joined, content_weaker, content_joined, same_device_trans}
 use Rattle.wb_tool.specs.Plain.{HoldsAfter, IsBlockInside, PutsPartly}

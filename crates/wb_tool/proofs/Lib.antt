@@ -1,5 +1,9 @@
-pub mod Accounts
 pub mod Answering
 pub mod Entries
 pub mod Runs
 pub mod Servings
+pub mod Words
+pub mod Shapes
+pub mod Accounts
+pub mod Completeness
+pub mod Formatted

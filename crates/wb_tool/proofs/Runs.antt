@@ -4,7 +4,7 @@ use Rattle.std.specs.Cmp.Lexicographic.{pointwise, same_text, other_text}
 use Rattle.std.proofs.Math.Seq.{take-append_seam, take_all}
 use Rattle.std.specs.Io.KnownBytes.{Consumes, IsAtEnd}
 use Rattle.wb_script.specs.Grammar.{most_bytes}
-use Rattle.wb_tool.specs.Run.{script_bytes, IsServe}
+use Rattle.wb_tool.specs.Run.{script_bytes}
 use Rattle.wb_tool.specs.Reads.{IsRead, IsPiece}
 
 -- these bytes were taken from the source, and no more than may be
@@ -42,28 +42,18 @@ front_cut n xs bytes ys split size = sym (ap (take n) split ∙ ap (λ k. take k
 -- the source is at its end
 pub read_whole : (a b : Known) (bytes : List ℕ) → IsReading a b bytes → IsAtEnd b → IsRead a b bytes
 unfolding script_bytes
-read_whole None b bytes so_far end = record { bytes_are = tt; at_end = λ _. end }
+read_whole None b bytes so_far end = record { bytes_are = tt; at_end = λ _. end; taken = so_far.taken; few = so_far.few }
 read_whole (Some x) None bytes so_far end = absurd so_far.taken
-read_whole (Some x) (Some y) bytes so_far end = record { bytes_are = front_all (most_bytes + 1) x bytes y so_far.taken end so_far.few; at_end = λ _. end }
+read_whole (Some x) (Some y) bytes so_far end = record { bytes_are = front_all (most_bytes + 1) x bytes y so_far.taken end so_far.few; at_end = λ _. end; taken = so_far.taken; few = so_far.few }
 
 -- there are more bytes than a script may have
 pub read_cut : (a b : Known) (bytes : List ℕ) → IsReading a b bytes → most_bytes < length bytes → IsRead a b bytes
 unfolding script_bytes
-read_cut None b bytes so_far many = record { bytes_are = tt; at_end = λ few. absurd (omega arith) }
+read_cut None b bytes so_far many = record { bytes_are = tt; at_end = λ few. absurd (omega arith); taken = so_far.taken; few = so_far.few }
 read_cut (Some x) None bytes so_far many = absurd so_far.taken
 read_cut (Some x) (Some y) bytes so_far many = record {
   bytes_are = front_cut (most_bytes + 1) x bytes y so_far.taken (omega (arith, so_far.few));
   at_end = λ few. absurd (omega arith);
+  taken = so_far.taken;
+  few = so_far.few;
 }
-
--- three words, of which a test has told whether the first is `serve`
-pub serve_words : {X : Type 0} (text : X → List ℕ) (ws : List X) (first : X) → length ws ≡ 3 → first ≡ get_or ws 0 first
-    → (b : Bool) → b ≡ pointwise nat_eq (text first) (codes "serve") → IsTrue b ↔ IsServe (map text ws)
-serve_words text [] first three is b test = absurd (omega arith)
-serve_words text (x ∷ []) first three is b test = absurd (omega arith)
-serve_words text (x ∷ y ∷ []) first three is b test = absurd (omega arith)
-serve_words text (x ∷ y ∷ z ∷ []) first three is true test =
-    (λ _. record { log = text y; backing = text z; are = ap (λ w. w ∷ text y ∷ text z ∷ []) (sym (ap text is) ∙ same_text _ _ test) }, λ _. refl)
-serve_words text (x ∷ y ∷ z ∷ []) first three is false test =
-    (λ no. cc, λ (serve : IsServe (map text (x ∷ y ∷ z ∷ []))). absurd (other_text _ _ test (ap text is ∙ let are = serve.are in cc)))
-serve_words text (x ∷ y ∷ z ∷ w ∷ ws) first three is b test = absurd (omega arith)

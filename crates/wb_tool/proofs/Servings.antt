@@ -17,7 +17,7 @@ use Rattle.wb_script.specs.declared.transcript.Line.{Line}
 use Rattle.wb_script.proofs.Sessions.{IsLegal-alone, AreLegal-one, IsHistory-one, all_failures-one, one_history}
 use Rattle.wb_tool.specs.Run.{Lent, lent, Took}
 use Rattle.wb_tool.specs.Plain.{IsPlayed, RoseBy, PutsPartly}
-use Rattle.wb_tool.specs.Served.{Served, Reports, no_log}
+use Rattle.wb_tool.specs.Served.{Served, Reports}
 use Rattle.wb_tool.proofs.Entries.{puts_all}
 
 abbrev Known : Type 0
@@ -33,6 +33,10 @@ Appends-more (Some x) (Some y) (Some z) xs ys first second = second ∙ ap (λ l
 fronts : (xs ys : List ℕ) (n : ℕ) → xs ++ take n ys ≡ take (length xs + n) (xs ++ ys)
 fronts xs ys n = sym (take-append-add xs ys n)
 
+-- a text and the same text
+pub took_same : (sink : Lent) (a b : List ℕ) → Took sink a → a ≡ b → Took sink b
+took_same sink a b took same = subst (Took sink) same took
+
 -- the sink took a text, and then another whole or in front
 pub took_more : (a b c : Known) (f g h : ℕ) (xs ys : List ℕ) → Appends a b xs → g ≡ f → Took (lent b c g h) ys → Took (lent a c f h) (xs ++ ys)
 took_more a b c f g h xs ys first same (inl (all, kept)) = inl (Appends-more a b c xs ys first all, kept ∙ same)
@@ -46,10 +50,6 @@ pub front_longer : (a b : Known) (xs ys : List ℕ) → AppendsFront a b xs → 
 front_longer a b xs ys (n, few, front) =
     (n, omega (arith, length-append xs ys, few), subst (Appends a b) (sym (take-append-le n xs ys few)) front)
 
--- no line tells of a log device that wasn't lent
-none_failed : (times : ℕ) → times ≡ 0 → RoseBy times 0 0
-none_failed times none = omega arith
-
 rose_on : (times before mid now : ℕ) → RoseBy times before mid → mid ≤ now → RoseBy times before now
 rose_on times before mid now rose on = omega arith
 
@@ -59,7 +59,7 @@ served_one : (script : ScriptContent) (requests : List Request) (sink : Lent) (o
     → ContentPasses (PutsPartly history) old new
     → (all_failed : Bool) → (all_failed ≡ false → ContentPasses (λ base image. image ≡ after base history) old new) → (all_failed ≡ false → NothingPending new)
     → Reports sink (session_text script (lines ∷ []) (length history)) all_failed status
-    → Served script sink no_log no_log old new status (lines ∷ []) (length history)
+    → Served script sink old new status (lines ∷ []) (length history)
 served_one script requests sink old mid new lines history failed status one played later changed all_failed stored synced reports =
     let printed = IsHistory-one script requests lines history one played.once in record {
       history = history;
@@ -67,7 +67,7 @@ served_one script requests sink old mid new lines history failed status one play
       only = λ other is. one_history script (lines ∷ []) (length history) other history is printed;
       legal = AreLegal-one old.content history script requests lines one (IsLegal-alone old.content history 0 requests lines played.answers played.own played.once);
       unstopped = All-cons (All IsUnstopped) lines [] played.unstopped (All-nil (All IsUnstopped));
-      log_failures = none_failed (all_failures Log (lines ∷ [])) (all_failures-one Log lines ∙ played.log_failures);
+      log_failures = all_failures-one Log lines ∙ played.log_failures;
       backing_failures = rw (all_failures-one Backing lines) (rose_on (failures Backing lines) old.faults mid.faults new.faults played.failures later);
       output = λ s. (reports.done s).2;
       output_cut = λ s. (reports.cut s).2;
@@ -82,10 +82,10 @@ pub session_served : (script : ScriptContent) (requests : List Request) (sink : 
     → script.requests ≡ requests ∷ [] → IsPlayed 0 requests old mid lines history failed → transcripts ≡ lines ∷ [] → places ≡ length history
     → mid.faults ≤ new.faults → ContentPasses (PutsPartly history) old new → (all_failed : Bool) → (all_failed ≡ false → ContentPasses (λ base image. image ≡ after base history) old new) → (all_failed ≡ false → NothingPending new)
     → Reports sink (session_text script transcripts places) all_failed status
-    → Served script sink no_log no_log old new status transcripts places
+    → Served script sink old new status transcripts places
 session_served script requests sink old mid new lines history failed status transcripts places one played written count later changed all_failed stored synced reports =
-    let A : List (List Line) → Type 0 = λ t. Reports sink (session_text script t (length history)) all_failed status → Served script sink no_log no_log old new status t (length history) in
-    let B : ℕ → Type 0 = λ p. Reports sink (session_text script transcripts p) all_failed status → Served script sink no_log no_log old new status transcripts p in
+    let A : List (List Line) → Type 0 = λ t. Reports sink (session_text script t (length history)) all_failed status → Served script sink old new status t (length history) in
+    let B : ℕ → Type 0 = λ p. Reports sink (session_text script transcripts p) all_failed status → Served script sink old new status transcripts p in
     subst B (sym count) (subst A (sym written) (served_one script requests sink old mid new lines history failed status one played later changed all_failed stored synced)) reports
 
 -- what a put leaves, whether or not it failed

@@ -1,67 +1,70 @@
--- What a run answers for: each status with its cause, what a session and a refusal leave, and when a run succeeds.
-use Rattle.std.specs.Prelude.{ℕ, ◌≡◌, ◌≢◌, ◌⊎◌, ◌<◌, ◌≤◌, List, [], Some}
-use Rattle.std.specs.Io.KnownBytes.{IsAtEnd}
-use Rattle.wb_geometry.specs.Device.{Rose}
+-- What a run answers for, by its words, and when it succeeds.
+use Rattle.std.specs.Prelude.{ℕ, ◌≡◌, ◌⊎◌, ◌≤◌, List, Some}
+use Rattle.wb_geometry.specs.Image.{Image}
+use Rattle.wb_geometry.specs.Layout.{log_sectors}
+use Rattle.wb_geometry.specs.Device.{IsUncalled}
+use Rattle.wb_geometry.specs.declared.geometry.Geometry.{Geometry}
+use Rattle.wb_super.specs.Superblock.{SuperText, record_of}
+use Rattle.wb_super.specs.Found.{most_record}
 use Rattle.wb_script.specs.Content.{ScriptContent}
 use Rattle.wb_script.specs.Grammar.{IsScript}
-use Rattle.wb_script.specs.declared.refusal.Cause.{Cause}
-use Rattle.wb_tool.specs.Run.{Run, IsServe, HasFailed, HasNotFailed, Spells, Refuses, Took, usable, script_bytes}
-use Rattle.wb_tool.specs.Texts.{usage_line, small_line, source_line, refused_line}
-use Rattle.wb_tool.specs.Served.{Served}
+use Rattle.wb_tool.specs.declared.command.Command.{Command}
+use Rattle.wb_tool.specs.declared.command.Numbers.{Numbers}
+use Rattle.wb_tool.specs.Commands.{IsForm, IsServe, IsInspect, IsFormat}
+use Rattle.wb_tool.specs.Run.{Run, HasFailed, IsUntouched, LogHasFailed, BackingHasFailed, NoSession, Took, script_bytes}
+use Rattle.wb_tool.specs.Texts.{usage_line}
+use Rattle.wb_tool.specs.Serve.{ServeAccount}
+use Rattle.wb_tool.specs.Format.{FormatAccount, Asks}
+use Rattle.wb_tool.specs.Inspect.{InspectAccount}
 
-abbrev pub BackingHasFailed : Run → Type 0
-BackingHasFailed run = Rose run.backing_before.faults run.backing_after.faults
+-- the words are of no form
+pub record UsageAccount (run : Run) : Type 0 where
+  pub status : run.status ≡ 2
+  pub told : Took run.sink usage_line
+  pub no_session : NoSession run
+  pub unread : IsUntouched run.source
+  pub log : IsUncalled run.log_before run.log_after
 
-abbrev pub BackingHasNotFailed : Run → Type 0
-BackingHasNotFailed run = run.backing_after.faults ≡ run.backing_before.faults
+-- what a run answers for: its words are of one of three forms, or of none
+pub record IsAccounted (words : List (List ℕ)) (run : Run) : Type 0 where
+  pub usage : ((command : Command) → IsForm command words → ⊥) → UsageAccount run
+  pub serve : IsServe words → ServeAccount run
+  pub format : (numbers : Numbers) → IsFormat numbers words → FormatAccount numbers run
+  pub inspect : IsInspect words → InspectAccount run
 
--- the words are of the one form, and the backing device has a block at least
-abbrev pub IsReady : Run → Type 0
-IsReady run = IsServe run.words × (8 ≤ run.backing_before.sectors)
+-- the log device tells that it is formatted for this geometry, with a record that is taken
+pub record TellsFormatted (run : Run) (g : Geometry) : Type 0 where
+  pub image : Image
+  pub told : run.log_before.content ≡ Some image
+  pub text : SuperText image g 1
+  pub bounded : record_of image ≤ most_record
 
--- Each status comes only with its cause, and each cause says what holds of the stages before it. Status 1 is want of
--- memory, of which nothing is said; so but for it each status comes exactly where its cause holds.
-pub record HasCauses (run : Run) : Type 0 where
-  pub known : (run.status ≤ 5) ⊎ (run.status ≡ 7) ⊎ (run.status ≡ 9)
-  pub usage : run.status ≡ 2 → IsServe run.words → ⊥
-  pub small : run.status ≡ 9 → IsServe run.words × (run.backing_before.sectors < 8)
-  pub source : run.status ≡ 4 → IsReady run × HasFailed run.source
-  pub script : run.status ≡ 3 → IsReady run × HasNotFailed run.source × ((line : ℕ) × (cause : Cause) × Refuses run line cause)
-  pub backing : run.status ≡ 7 → IsReady run × HasNotFailed run.source × BackingHasFailed run
-  pub sink : run.status ≡ 5 → IsReady run × HasNotFailed run.source × HasFailed run.sink
-  pub done : run.status ≡ 0 → IsReady run × HasNotFailed run.source × HasNotFailed run.sink
-  pub kept : run.status ≢ 7 → run.status ≢ 1 → BackingHasNotFailed run
-
--- a session began
-abbrev pub IsSession : Run → Type 0
-IsSession run = (run.status ≡ 0) ⊎ (run.status ≡ 5) ⊎ (run.status ≡ 7)
-
--- a session that began: its script is what the source held, of which nothing is left
-pub record Session (run : Run) : Type 0 where
+-- the source tells a good script for this geometry
+pub record IsScripted (run : Run) (g : Geometry) : Type 0 where
+  pub input : List ℕ
+  pub told : run.source.before ≡ Some input
   pub script : ScriptContent
-  pub spelled : Spells run script
-  pub at_end : IsAtEnd run.source.after
-  pub served : Served script run.sink run.log_before run.log_after run.backing_before run.backing_after run.status run.transcripts run.places
+  pub good : IsScript g.backing_sectors (script_bytes input) script
 
--- what a run leaves in which no session began
-pub record Refusal (run : Run) : Type 0 where
-  pub transcripts : run.transcripts ≡ []
-  pub places : run.places ≡ 0
-  pub content : run.backing_after.content ≡ run.backing_before.content
-  pub usage : run.status ≡ 2 → Took run.sink usage_line
-  pub small : run.status ≡ 9 → Took run.sink (small_line run.backing_before.sectors)
-  pub source : run.status ≡ 4 → Took run.sink source_line
-  pub script : run.status ≡ 3 → (line : ℕ) × (cause : Cause) × Refuses run line cause × Took run.sink (refused_line line cause)
-  -- the source is read only once the words and the backing device were found good
-  pub unread : (run.status ≡ 2) ⊎ (run.status ≡ 9) → run.source.after ≡ run.source.before
+-- neither the sink nor the log device failed
+pub record NoLogFault (run : Run) : Type 0 where
+  pub sink : HasFailed run.sink → ⊥
+  pub log : LogHasFailed run → ⊥
 
--- a good script, and no fault: the run succeeds, but for want of memory
-abbrev pub IsComplete : Run → Type 0
-IsComplete run = IsReady run → (input : List ℕ) (script : ScriptContent) → run.source.before ≡ Some input
-    → IsScript (usable run.backing_before.sectors) (script_bytes input) script
-    → (HasFailed run.source → ⊥) → (HasFailed run.sink → ⊥) → (BackingHasFailed run → ⊥) → (run.status ≡ 0) ⊎ (run.status ≡ 1)
+-- nor the source, nor the backing device
+pub record NoFault (run : Run) : Type 0 where
+  pub fine : NoLogFault run
+  pub source : HasFailed run.source → ⊥
+  pub backing : BackingHasFailed run → ⊥
 
-pub record IsAccounted (run : Run) : Type 0 where
-  pub causes : HasCauses run
-  pub session : IsSession run → Session run
-  pub refusal : run.status ≢ 1 → (IsSession run → ⊥) → Refusal run
+-- done, or want of memory
+abbrev pub Succeeds : Run → Type 0
+Succeeds run = (run.status ≡ 0) ⊎ (run.status ≡ 1)
+
+-- a run over good devices, with a good script where one is read, succeeds but for want of memory
+pub record IsComplete (words : List (List ℕ)) (run : Run) : Type 0 where
+  pub serve : IsServe words → NoFault run → (g : Geometry) → TellsFormatted run g
+      → g.backing_sectors ≤ run.backing_before.sectors → IsScripted run g → Succeeds run
+  pub format : (numbers : Numbers) → IsFormat numbers words → NoLogFault run → 8 ≤ run.backing_before.sectors
+      → (g : Geometry) → Asks numbers run.backing_before.sectors g → log_sectors g ≤ run.log_before.sectors → Succeeds run
+  pub inspect : IsInspect words → NoLogFault run → (g : Geometry) → TellsFormatted run g → Succeeds run

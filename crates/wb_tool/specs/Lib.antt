@@ -1,7 +1,12 @@
 pub mod Run
+pub mod Commands
 pub mod Texts
 pub mod Plain
 pub mod Kept
 pub mod Reads
 pub mod Served
+pub mod Opening
+pub mod Serve
+pub mod Format
+pub mod Inspect
 pub mod Account

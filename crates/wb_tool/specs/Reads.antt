@@ -8,6 +8,8 @@ use Rattle.wb_tool.specs.Run.{script_bytes}
 pub record IsRead (before after : Option (List ℕ)) (bytes : List ℕ) : Type 0 where
   pub bytes_are : IfSome before (λ input. bytes ≡ script_bytes input)
   pub at_end : length bytes ≤ most_bytes → IsAtEnd after
+  pub taken : Consumes before after bytes
+  pub few : length bytes ≤ most_bytes + 1
 
 -- so many bytes were taken from the source and stand behind the others; none only at its end
 pub record IsPiece (before after : Option (List ℕ)) (old new : List ℕ) (count : ℕ) : Type 0 where

@@ -1,8 +1,9 @@
 -- A run of the program, as it is seen from outside.
-use Rattle.std.specs.Prelude.{ℕ, ◌≡◌, ◌⊎◌, ◌*◌, ◌/◌, ◌^◌, ◌+◌, List, [], ◌∷◌, take, min, codes, Option, IfSome}
+use Rattle.std.specs.Prelude.{ℕ, ◌≡◌, ◌⊎◌, ◌*◌, ◌/◌, ◌^◌, ◌+◌, List, [], take, min, Option, IfSome}
 use Rattle.std.specs.Io.KnownBytes.{Appends}
-use Rattle.wb_geometry.specs.Device.{State, Rose}
+use Rattle.wb_geometry.specs.Device.{State, Rose, IsUncalled}
 use Rattle.wb_device.specs.Streams.{AppendsFront}
+use Rattle.wb_device.specs.Silent.{silent_state}
 use Rattle.wb_script.specs.Content.{ScriptContent}
 use Rattle.wb_script.specs.Grammar.{most_bytes, IsTheScript, IsTheRefusal}
 use Rattle.wb_script.specs.declared.refusal.Cause.{Cause}
@@ -26,9 +27,13 @@ HasFailed object = Rose object.faults_before object.faults_after
 abbrev pub HasNotFailed : Lent → Type 0
 HasNotFailed object = object.faults_after ≡ object.faults_before
 
--- the words of the command line, what was lent, both devices at entry and at exit, and what came out
+-- its bytes and its faults are as they were
+pub record IsUntouched (object : Lent) : Type 0 where
+  pub bytes : object.after ≡ object.before
+  pub faults : HasNotFailed object
+
+-- what was lent, both devices at entry and at exit, and what came out
 pub record Run : Type 1 where
-  pub words : List (List ℕ)
   pub source : Lent
   pub sink : Lent
   pub log_before : State
@@ -39,10 +44,9 @@ pub record Run : Type 1 where
   pub transcripts : List (List Line)
   pub places : ℕ
 
-abbrev pub run_of : List (List ℕ) → (source sink : Lent) → (log_before log_after backing_before backing_after : State)
+abbrev pub run_of : (source sink : Lent) → (log_before log_after backing_before backing_after : State)
     → (status : ℕ) → List (List Line) → (places : ℕ) → Run
-run_of words source sink log_before log_after backing_before backing_after status transcripts places = record {
-  words = words;
+run_of source sink log_before log_after backing_before backing_after status transcripts places = record {
   source = source;
   sink = sink;
   log_before = log_before;
@@ -54,13 +58,26 @@ run_of words source sink log_before log_after backing_before backing_after statu
   places = places;
 }
 
--- `serve LOG BACKING`
-pub record IsServe (words : List (List ℕ)) : Type 0 where
-  pub log : List ℕ
-  pub backing : List ℕ
-  pub are : words ≡ codes "serve" ∷ log ∷ backing ∷ []
+-- the state of a log device that a function isn't lent
+abbrev pub no_log : State
+no_log = silent_state 0 0 0 0
 
--- the sectors that are served, of a backing device of so many
+abbrev pub LogHasFailed : Run → Type 0
+LogHasFailed run = Rose run.log_before.faults run.log_after.faults
+
+abbrev pub BackingHasFailed : Run → Type 0
+BackingHasFailed run = Rose run.backing_before.faults run.backing_after.faults
+
+abbrev pub BackingHasNotFailed : Run → Type 0
+BackingHasNotFailed run = run.backing_after.faults ≡ run.backing_before.faults
+
+-- no session began: there is no transcript and no place, and the backing device wasn't called
+pub record NoSession (run : Run) : Type 0 where
+  pub transcripts : run.transcripts ≡ []
+  pub places : run.places ≡ 0
+  pub backing : IsUncalled run.backing_before run.backing_after
+
+-- the sectors that can be served of a backing device of so many: whole blocks of eight, and 2 ^ 40 sectors at most
 abbrev pub usable : ℕ → ℕ
 usable sectors = min (8 * (sectors / 8)) (2 ^ 40)
 
@@ -68,16 +85,20 @@ usable sectors = min (8 * (sectors / 8)) (2 ^ 40)
 unfoldable pub script_bytes : List ℕ → List ℕ
 script_bytes input = take (most_bytes + 1) input
 
--- the source, where it tells its bytes, held this script
-abbrev pub Spells : Run → ScriptContent → Type 0
-Spells run script =
-    IfSome run.source.before (λ input. IsTheScript (usable run.backing_before.sectors) (script_bytes input) script)
+-- the source, where it tells its bytes, held this script for a cache of so many backing sectors
+abbrev pub Spells : (sectors : ℕ) → Lent → ScriptContent → Type 0
+Spells sectors source script = IfSome source.before (λ input. IsTheScript sectors (script_bytes input) script)
 
 -- the source, where it tells its bytes, held what is refused at this line for this cause
-abbrev pub Refuses : Run → ℕ → Cause → Type 0
-Refuses run line cause =
-    IfSome run.source.before (λ input. IsTheRefusal (usable run.backing_before.sectors) (script_bytes input) line cause)
+abbrev pub Refuses : (sectors : ℕ) → Lent → ℕ → Cause → Type 0
+Refuses sectors source line cause = IfSome source.before (λ input. IsTheRefusal sectors (script_bytes input) line cause)
 
 -- the sink took the text, or failed and took a front of it
 abbrev pub Took : Lent → List ℕ → Type 0
 Took sink text = (Appends sink.before sink.after text × HasNotFailed sink) ⊎ (AppendsFront sink.before sink.after text × HasFailed sink)
+
+-- the run ends by telling the text: at 0 the sink took it, and at 5 it failed and took a front of it
+abbrev pub EndsTelling : Lent → (status : ℕ) → List ℕ → Type 0
+EndsTelling sink status text =
+    ((status ≡ 0) × HasNotFailed sink × Appends sink.before sink.after text)
+    ⊎ ((status ≡ 5) × HasFailed sink × AppendsFront sink.before sink.after text)

@@ -1,14 +1,23 @@
--- The fault lines.
-use Rattle.std.specs.Prelude.{ℕ, List, ◌++◌, codes}
+-- The fault lines, and the lines that `format` and `inspect` answer.
+use Rattle.std.specs.Prelude.{ℕ, List, [], ◌++◌, codes}
 use Rattle.std.specs.Fmt.{decimal}
-use Rattle.wb_script.specs.Output.{newline, cause_text}
+use Rattle.std.specs.Int.{w32, to_be_bytes}
+use Rattle.hex.specs.Hex.{encode_lower}
+use Rattle.wb_geometry.specs.declared.geometry.Geometry.{Geometry}
+use Rattle.wb_geometry.specs.declared.which.Which.{Which}
+use Rattle.wb_geometry.specs.declared.which.Which.TheVariants.{Log}
+use Rattle.wb_super.specs.declared.reading.Super.{Super}
+use Rattle.wb_super.specs.declared.reading.SuperRefused.{SuperRefused}
+use Rattle.wb_super.specs.declared.reading.SuperRefused.TheVariants as refused
+use Rattle.wb_script.specs.Output.{newline, cause_text, device_name}
 use Rattle.wb_script.specs.declared.refusal.Cause.{Cause}
 
 abbrev pub usage_line : List ℕ
 usage_line = codes "wblog: usage" ++ newline
 
-abbrev pub small_line : ℕ → List ℕ
-small_line sectors = codes "wblog: backing device has " ++ decimal sectors ++ codes " sectors, needs 8" ++ newline
+abbrev pub small_line : Which → (has needs : ℕ) → List ℕ
+small_line device has needs =
+    codes "wblog: " ++ device_name device ++ codes " device has " ++ decimal has ++ codes " sectors, needs " ++ decimal needs ++ newline
 
 abbrev pub source_line : List ℕ
 source_line = codes "wblog: source failed" ++ newline
@@ -16,5 +25,53 @@ source_line = codes "wblog: source failed" ++ newline
 abbrev pub refused_line : ℕ → Cause → List ℕ
 refused_line line cause = codes "wblog: script line " ++ decimal line ++ codes ": " ++ cause_text cause ++ newline
 
-abbrev pub backing_line : List ℕ
-backing_line = codes "wblog: backing device failed" ++ newline
+abbrev pub failed_line : Which → List ℕ
+failed_line device = codes "wblog: " ++ device_name device ++ codes " device failed" ++ newline
+
+-- a checksum: eight hexadecimal digits, the highest first
+abbrev pub sum_text : ℕ → List ℕ
+sum_text sum = encode_lower (to_be_bytes w32 sum)
+
+-- why the bytes of a log image are refused
+abbrev pub image_cause : SuperRefused → List ℕ
+image_cause refused.Magic = codes "magic"
+image_cause (refused.Version version) = codes "version " ++ decimal version
+image_cause (refused.Sum stored computed) = codes "sum " ++ sum_text stored ++ codes " " ++ sum_text computed
+image_cause refused.Geometry = codes "geometry"
+image_cause (refused.Record found) = codes "record " ++ decimal found
+image_cause (refused.Small needs has) = []
+image_cause refused.Fault = []
+
+abbrev pub image_line : SuperRefused → List ℕ
+image_line cause = codes "wblog: log image: " ++ image_cause cause ++ newline
+
+-- the line for a superblock that is refused or can't be read
+abbrev pub super_line : SuperRefused → List ℕ
+super_line (refused.Small needs has) = small_line Log has needs
+super_line refused.Fault = failed_line Log
+super_line refused.Magic = image_line refused.Magic
+super_line (refused.Version version) = image_line (refused.Version version)
+super_line (refused.Sum stored computed) = image_line (refused.Sum stored computed)
+super_line refused.Geometry = image_line refused.Geometry
+super_line (refused.Record found) = image_line (refused.Record found)
+
+-- and the status
+abbrev pub super_status : SuperRefused → ℕ
+super_status (refused.Small needs has) = 9
+super_status refused.Fault = 6
+super_status refused.Magic = 8
+super_status (refused.Version version) = 8
+super_status (refused.Sum stored computed) = 8
+super_status refused.Geometry = 8
+super_status (refused.Record found) = 8
+
+abbrev pub geometry_text : Geometry → List ℕ
+geometry_text g = codes "order " ++ decimal g.order ++ codes " slots " ++ decimal g.slots ++ codes " ram " ++ decimal g.ram
+    ++ codes " backing " ++ decimal g.backing_sectors
+
+abbrev pub formatted_line : Geometry → List ℕ
+formatted_line g = codes "formatted " ++ geometry_text g ++ codes " record 0" ++ newline
+
+abbrev pub inspected_line : Super → List ℕ
+inspected_line found =
+    codes "version " ++ decimal found.version ++ codes " " ++ geometry_text found.geometry ++ codes " record " ++ decimal found.recorded ++ newline

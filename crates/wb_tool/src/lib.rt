@@ -2,9 +2,14 @@
 //! what the words ask, and answers a status. Its contract says what a run answers for (`specs/Account.antt`).
 #![tactic(auto)]
 
+mod command;
+mod formatting;
+mod inspecting;
+mod opening;
 mod plain;
 mod reading;
 mod run;
+mod serving;
 mod session;
 mod status;
 mod texts;

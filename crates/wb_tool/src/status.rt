@@ -18,8 +18,14 @@ pub const SOURCE: u8 = 4;
 /// The sink failed.
 pub const SINK: u8 = 5;
 
+/// The log device failed.
+pub const LOG: u8 = 6;
+
 /// The backing device failed.
 pub const BACKING: u8 = 7;
+
+/// The log image is refused.
+pub const IMAGE: u8 = 8;
 
 /// A device has too few sectors.
 pub const SMALL: u8 = 9;

@@ -1,6 +1,7 @@
 //! Tests of the top call.
 mod brittle;
 mod faults;
+mod formats;
 mod limits;
 mod refusals;
 mod sessions;
@@ -9,7 +10,10 @@ mod streams;
 use crate::{Outcome, run_single};
 use std::alloc::{AllocError, Global};
 use std::str::{self, Utf8Error};
+use std::test::Fail;
 use wb_device::{Device, MemorySink, MemorySource, SteadyDevice};
+use wb_geometry::Geometry;
+use wb_super::format;
 
 const SECTOR_BYTES: usize = 512;
 
@@ -25,6 +29,16 @@ fn filled(alloc: Global, count: usize, byte: u8) -> Result<SteadyDevice, AllocEr
     Ok(SteadyDevice::of(vec![in alloc; byte; count]?))
 }
 
+/// The sectors of a log of 4 slots of order 5.
+const LOG_SECTORS: usize = 2176;
+
+/// An empty log of 4 slots of order 5, for so many backing sectors. All that formatting doesn't write is 5a.
+fn empty_log(alloc: Global, sectors: u64) -> Result<SteadyDevice, Fail> {
+    let mut log = filled(alloc, LOG_SECTORS * SECTOR_BYTES, 0x5a)?;
+    format(&mut log, &Geometry::new(5, 4, 2, sectors)?)?;
+    Ok(log)
+}
+
 /// The text that a sink took.
 fn text_of(sink: &MemorySink) -> Result<&str, Utf8Error> {
     str::from_utf8(sink.taken())
@@ -37,7 +51,18 @@ fn serve<L: Device, B: Device>(
     log: L,
     backing: B,
 ) -> Result<(Outcome<L, B>, MemorySink), AllocError> {
-    let words = words_of(alloc, "serve LOG BACKING")?;
+    run(alloc, "serve LOG BACKING", script, log, backing)
+}
+
+/// Runs these words over these devices, with this script in a source and to a sink that don't fail.
+fn run<L: Device, B: Device>(
+    alloc: Global,
+    words: &str,
+    script: &str,
+    log: L,
+    backing: B,
+) -> Result<(Outcome<L, B>, MemorySink), AllocError> {
+    let words = words_of(alloc, words)?;
     let mut source = MemorySource::of(Vec::from_slice(alloc, script.as_bytes())?, None);
     let mut sink = MemorySink::new(alloc, None);
     let outcome = run_single(alloc, &words, &mut source, &mut sink, log, backing);

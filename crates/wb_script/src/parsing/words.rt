@@ -55,8 +55,8 @@ pub(super) fn is(word: &[u8], text: &[u8]) -> bool
     word == text
 }
 
-/// The number that the word spells in decimal digits, without a leading zero.
-pub(super) fn number(word: &[u8]) -> Option<u64>
+/// The number that the word spells in decimal digits, without a leading zero; at most `2 ^ 64 - 1`.
+pub fn number(word: &[u8]) -> Option<u64>
     ensures { MatchOption result ((n : ℕ) → n < 2 ^ 64 → word.now ≡ decimal n → ⊥) (λ n. (n < 2 ^ 64) × (word.now ≡ decimal n)) }
 {
     if !is_plain(word) {

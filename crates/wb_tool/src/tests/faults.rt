@@ -1,7 +1,8 @@
-//! Tests of a backing device of which each call fails in turn.
+//! Tests of devices of which each call fails in turn.
 use super::brittle::{Brittle, Call};
-use super::{SECTOR_BYTES, serve, text_of};
+use super::{SECTOR_BYTES, empty_log, run, serve, text_of};
 use std::test::Fail;
+use wb_device::{FaultPlan, MemoryDevice};
 
 const SCRIPT: &str = "\
 clients 1
@@ -21,6 +22,9 @@ const CALLS: [Call; 5] = [
     Call::Sync,
 ];
 
+// What is read of the log: the superblock and the record.
+const OPENING: [Call; 2] = [Call::Read(0), Call::Read(2047)];
+
 const FAULT: &str = "wblog: backing device failed\n";
 
 #[test]
@@ -38,7 +42,7 @@ fn each_call_of_the_backing_device_fails_in_turn(rt: HostRuntime) -> Result<(), 
         (Some(4), 5, third, fifth, FAULT, (0xaa, 0xbb), 7),
     ];
     for (failing, calls, third, fifth, last, (first, ninth), status) in rows {
-        let log = Brittle::of(alloc, vec![in alloc; 0; SECTOR_BYTES]?, None);
+        let log = Brittle::of(alloc, empty_log(alloc, 64)?.into_bytes(), None);
         let backing = vec![in alloc; 0x5a; 64 * SECTOR_BYTES]?;
         let backing = Brittle::of(alloc, backing, failing);
         let (outcome, sink) = serve(alloc, SCRIPT, log, backing)?;
@@ -49,11 +53,47 @@ fn each_call_of_the_backing_device_fails_in_turn(rt: HostRuntime) -> Result<(), 
         assert_eq!(rt; text_of(&sink)?, output.as_str());
         assert_eq!(rt; outcome.backing.calls().len(), calls);
         assert!(rt; CALLS.starts_with(outcome.backing.calls()));
-        assert!(rt; outcome.log.calls().is_empty());
+        assert_eq!(rt; outcome.log.calls(), OPENING.as_slice());
         let mut image = [0x5a; 64 * SECTOR_BYTES];
         image[..SECTOR_BYTES].fill(first);
         image[8 * SECTOR_BYTES..9 * SECTOR_BYTES].fill(ninth);
         assert_eq!(rt; outcome.backing.bytes(), image.as_slice());
     }
+    Ok(())
+}
+
+#[test]
+fn each_call_of_the_log_device_fails_in_turn(rt: HostRuntime) -> Result<(), Fail> {
+    let alloc = rt.alloc();
+    for words in ["serve LOG BACKING", "inspect LOG BACKING"] {
+        for failing in 0..OPENING.len() {
+            let log = Brittle::of(alloc, empty_log(alloc, 64)?.into_bytes(), Some(failing));
+            let backing = Brittle::of(alloc, vec![in alloc; 0x5a; 64 * SECTOR_BYTES]?, None);
+            let (outcome, sink) = run(alloc, words, SCRIPT, log, backing)?;
+            assert_eq!(rt; outcome.status, 6, "at {failing} of {words}");
+            assert_eq!(rt; text_of(&sink)?, "wblog: log device failed\n");
+            assert_eq!(rt; outcome.log.calls(), &OPENING[..failing + 1]);
+            assert!(rt; outcome.backing.calls().is_empty());
+            assert!(rt; outcome.transcripts.is_empty());
+        }
+    }
+    Ok(())
+}
+
+// A device that fails from its first call on, and tells what it holds.
+#[test]
+fn a_backing_device_that_stops_ends_the_session(rt: HostRuntime) -> Result<(), Fail> {
+    let alloc = rt.alloc();
+    let stopped = FaultPlan {
+        faults: Vec::new(alloc),
+        stop: Some(0),
+    };
+    let backing = MemoryDevice::of(alloc, vec![in alloc; 0; 64 * SECTOR_BYTES]?, stopped)?;
+    let log = empty_log(alloc, 64)?;
+    let (outcome, sink) = serve(alloc, "clients 1\n0 w 0 1 aa\n", log, backing)?;
+    assert_eq!(rt; outcome.status, 7);
+    let output = "0 w 0 1 at 0\nplaces 1\nwblog: backing device failed\n";
+    assert_eq!(rt; text_of(&sink)?, output);
+    assert!(rt; outcome.backing.bytes().iter().all(|byte| *byte == 0));
     Ok(())
 }

@@ -1,5 +1,5 @@
 //! Tests of the largest scripts.
-use super::{SECTOR_BYTES, filled, serve, text_of, words_of};
+use super::{SECTOR_BYTES, empty_log, filled, serve, text_of, words_of};
 use crate::run_single;
 use std::test::Fail;
 use wb_device::{MemorySink, MemorySource, Source};
@@ -19,7 +19,7 @@ fn the_most_requests_are_served_and_one_more_is_refused(rt: HostRuntime) -> Resu
         )?;
     }
     output.push_str("places 125000\n")?;
-    let log = filled(alloc, SECTOR_BYTES, 0)?;
+    let log = empty_log(alloc, 8)?;
     let backing = filled(alloc, 8 * SECTOR_BYTES, 0)?;
     let (outcome, sink) = serve(alloc, script.as_str(), log, backing)?;
     assert_eq!(rt; outcome.status, 0);
@@ -47,7 +47,7 @@ fn one_byte_more_than_the_most_is_read(rt: HostRuntime) -> Result<(), Fail> {
     for (bytes, output, left) in rows {
         let mut source = MemorySource::of(vec![in alloc; 0; bytes]?, None);
         let mut sink = MemorySink::new(alloc, None);
-        let log = filled(alloc, SECTOR_BYTES, 0)?;
+        let log = empty_log(alloc, 8)?;
         let backing = filled(alloc, 8 * SECTOR_BYTES, 0)?;
         let outcome = run_single(alloc, &words, &mut source, &mut sink, log, backing);
         assert_eq!(rt; outcome.status, 3);

@@ -1,5 +1,5 @@
 //! Tests of sessions in which nothing fails.
-use super::{SECTOR_BYTES, filled, serve, text_of};
+use super::{SECTOR_BYTES, empty_log, filled, serve, text_of};
 use std::alloc::{AllocError, Global};
 use std::test::Fail;
 use wb_device::SteadyDevice;
@@ -19,7 +19,7 @@ fn a_session_is_answered_and_put(rt: HostRuntime) -> Result<(), Fail> {
         ("clients 1", "places 0\n", 0, 0, 0),
     ];
     for (script, output, requests, places, byte) in rows {
-        let log = filled(alloc, 2176 * SECTOR_BYTES, 0x5a)?;
+        let log = empty_log(alloc, 64)?;
         let backing = filled(alloc, 64 * SECTOR_BYTES, 0)?;
         let (outcome, sink) = serve(alloc, script, log, backing)?;
         assert_eq!(rt; outcome.status, 0, "at {script:?}");
@@ -31,8 +31,7 @@ fn a_session_is_answered_and_put(rt: HostRuntime) -> Result<(), Fail> {
         let mut image = [0; 64 * SECTOR_BYTES];
         image[..SECTOR_BYTES].fill(byte);
         assert_eq!(rt; outcome.backing.bytes(), image.as_slice());
-        assert_eq!(rt; outcome.log.bytes().len(), 2176 * SECTOR_BYTES);
-        assert!(rt; outcome.log.bytes().iter().all(|byte| *byte == 0x5a));
+        assert_eq!(rt; outcome.log.bytes(), empty_log(alloc, 64)?.bytes());
     }
     Ok(())
 }
@@ -129,7 +128,7 @@ fn a_read_shows_what_was_written_last(rt: HostRuntime) -> Result<(), Fail> {
     ];
     for writes in rows {
         let mut sectors = mixed();
-        let log = filled(alloc, SECTOR_BYTES, 0)?;
+        let log = empty_log(alloc, 8)?;
         let backing = SteadyDevice::of(image_of(alloc, &sectors)?);
         let played = play_plain(alloc, &mut sectors, writes)?;
         let (outcome, sink) = serve(alloc, played.script.as_str(), log, backing)?;

@@ -1,7 +1,7 @@
 //! Tests of a source that gives its bytes in pieces, and of a sink that fails in the middle of the output.
-use super::{SECTOR_BYTES, filled, serve, text_of, words_of};
+use super::{SECTOR_BYTES, empty_log, filled, text_of, words_of};
 use crate::{Outcome, run_single};
-use std::alloc::{AllocError, Global};
+use std::alloc::Global;
 use std::test::Fail;
 use wb_device::{MemorySink, MemorySource, Source, SourceFault, SteadyDevice};
 
@@ -38,7 +38,7 @@ fn the_script_may_come_in_pieces(rt: HostRuntime) -> Result<(), Fail> {
             most,
         };
         let mut sink = MemorySink::new(alloc, None);
-        let log = filled(alloc, SECTOR_BYTES, 0)?;
+        let log = empty_log(alloc, 64)?;
         let backing = filled(alloc, 64 * SECTOR_BYTES, 0)?;
         let outcome = run_single(alloc, &words, &mut source, &mut sink, log, backing);
         assert_eq!(rt; outcome.status, 0, "at {most}");
@@ -53,11 +53,11 @@ fn cut_at(
     alloc: Global,
     script: &str,
     failing: Option<u64>,
-) -> Result<(MemorySink, Outcome<SteadyDevice, SteadyDevice>), AllocError> {
+) -> Result<(MemorySink, Outcome<SteadyDevice, SteadyDevice>), Fail> {
     let words = words_of(alloc, "serve LOG BACKING")?;
     let mut source = MemorySource::of(Vec::from_slice(alloc, script.as_bytes())?, None);
     let mut sink = MemorySink::new(alloc, failing);
-    let log = filled(alloc, SECTOR_BYTES, 0)?;
+    let log = empty_log(alloc, 64)?;
     let backing = filled(alloc, 64 * SECTOR_BYTES, 0)?;
     let outcome = run_single(alloc, &words, &mut source, &mut sink, log, backing);
     Ok((sink, outcome))

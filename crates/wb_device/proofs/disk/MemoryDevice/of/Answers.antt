@@ -9,5 +9,6 @@ returns-clause-fresh c = record {
   unused = record { faults = refl; syncs = refl; reads = refl };
   calls = refl;
   starved = refl;
+  changes = ap changes_of c.in_ok-of.ensures.recorded;
   durable = disk_new (ap changes_of c.in_ok-of.ensures.recorded) (ap sectors_of (sym c.in_ok-of.ensures.first));
 }

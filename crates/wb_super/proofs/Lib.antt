@@ -1,0 +1,2 @@
+pub mod Formattings
+pub mod Superblocks

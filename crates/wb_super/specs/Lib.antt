@@ -1,0 +1,5 @@
+pub mod Superblock
+pub mod Found
+pub mod Formatting
+pub mod Recording
+pub mod Clearing

@@ -1,0 +1,4 @@
+//! Rows of the superblock, worked by hand.
+
+mod formatting;
+mod refusing;

@@ -1,0 +1,45 @@
+-- The words behind the program's name (docs/SCRIPT.md). A number is in decimal digits, without a leading zero; the names
+-- of the two devices are any words.
+use Rattle.std.specs.Prelude.{ℕ, ◌≡◌, List, [], ◌∷◌, codes}
+use Rattle.std.specs.Fmt.{decimal}
+use Rattle.wb_geometry.specs.Geometry.{IsOrder, IsSlots, IsRam}
+use Rattle.wb_tool.specs.declared.command.Numbers.{Numbers}
+use Rattle.wb_tool.specs.declared.command.Command.{Command}
+use Rattle.wb_tool.specs.declared.command.Command.TheVariants.{Format, Serve, Inspect}
+
+-- three words spell these numbers, which are in their ranges
+pub record SpellNumbers (order slots ram : List ℕ) (numbers : Numbers) : Type 0 where
+  pub order_is : order ≡ decimal numbers.order
+  pub slots_are : slots ≡ decimal numbers.slots
+  pub ram_is : ram ≡ decimal numbers.ram
+  pub order_fits : IsOrder numbers.order
+  pub slots_fit : IsSlots numbers.slots
+  pub ram_fits : IsRam numbers.ram
+
+-- `serve LOG BACKING`
+pub record IsServe (words : List (List ℕ)) : Type 0 where
+  pub log : List ℕ
+  pub backing : List ℕ
+  pub are : words ≡ codes "serve" ∷ log ∷ backing ∷ []
+
+-- `inspect LOG BACKING`
+pub record IsInspect (words : List (List ℕ)) : Type 0 where
+  pub log : List ℕ
+  pub backing : List ℕ
+  pub are : words ≡ codes "inspect" ∷ log ∷ backing ∷ []
+
+-- `format LOG BACKING ORDER SLOTS RAM`, with numbers in their ranges
+pub record IsFormat (numbers : Numbers) (words : List (List ℕ)) : Type 0 where
+  pub log : List ℕ
+  pub backing : List ℕ
+  pub order : List ℕ
+  pub slots : List ℕ
+  pub ram : List ℕ
+  pub are : words ≡ codes "format" ∷ log ∷ backing ∷ order ∷ slots ∷ ram ∷ []
+  pub spelled : SpellNumbers order slots ram numbers
+
+-- the words are of the form of this command
+abbrev pub IsForm : Command → List (List ℕ) → Type 0
+IsForm (Format numbers) words = IsFormat numbers words
+IsForm Serve words = IsServe words
+IsForm Inspect words = IsInspect words

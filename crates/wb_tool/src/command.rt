@@ -1,0 +1,72 @@
+//! What the words of the command line ask.
+ghost use Rattle.std.specs.Prelude.{◌≡◌, ◌<◌, ◌^◌, ℕ, MatchOption, map};
+ghost use Rattle.std.specs.Fmt.{decimal};
+ghost use Rattle.std.specs.String.{string_bytes};
+ghost use Rattle.wb_tool.specs.declared.command.Command.{Command};
+ghost use Rattle.wb_tool.specs.declared.command.Numbers.{Numbers};
+ghost use Rattle.wb_tool.specs.Commands.{IsForm, SpellNumbers};
+
+use wb_geometry::Geometry;
+use wb_script::number;
+
+/// The numbers of a log that is to be made.
+#[derive(Clone, Copy)]
+pub struct Numbers {
+    pub order: u32,
+    pub slots: u32,
+    pub ram: u32,
+}
+
+/// A command. The names of the two devices are for the program.
+#[derive(Clone, Copy)]
+pub enum Command {
+    /// Makes an empty log.
+    Format(Numbers),
+    /// Serves a script.
+    Serve,
+    /// Tells the superblock.
+    Inspect,
+}
+
+/// The sectors of the smallest backing device.
+const FEWEST_SECTORS: u64 = 8;
+
+/// The command that the words behind the program's name ask for.
+pub fn command_of(words: &[String]) -> Option<Command>
+    ensures { MatchOption result ((command : Command) → IsForm command (map string_bytes words.now) → ⊥) (λ command. IsForm command (map string_bytes words.now)) }
+{
+    match words.len() {
+        3 => match words[0].as_str() {
+            "serve" => Some(Command::Serve),
+            "inspect" => Some(Command::Inspect),
+            _ => None,
+        },
+        6 => match words[0].as_str() {
+            "format" => {
+                let numbers = numbers_of(words[3].as_str(), words[4].as_str(), words[5].as_str())?;
+                Some(Command::Format(numbers))
+            }
+            _ => None,
+        },
+        _ => None,
+    }
+}
+
+/// The numbers that these words spell, where they are in their ranges.
+fn numbers_of(order: &str, slots: &str, ram: &str) -> Option<Numbers>
+    ensures { MatchOption result ((numbers : Numbers) → SpellNumbers order.now slots.now ram.now numbers → ⊥) (SpellNumbers order.now slots.now ram.now) }
+{
+    let order = number_32(order)?;
+    let slots = number_32(slots)?;
+    let ram = number_32(ram)?;
+    // it judges the three numbers: the sectors are good
+    Geometry::new(order, slots, ram, FEWEST_SECTORS).ok()?;
+    Some(Numbers { order, slots, ram })
+}
+
+/// The number that the word spells.
+fn number_32(word: &str) -> Option<u32>
+    ensures { MatchOption result ((n : ℕ) → n < 2 ^ 32 → word.now ≡ decimal n → ⊥) (λ n. (n < 2 ^ 32) × (word.now ≡ decimal n)) }
+{
+    u32::try_from(number(word.as_bytes())?).ok()
+}

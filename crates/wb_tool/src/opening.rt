@@ -1,0 +1,45 @@
+//! How a command ends where the log or the backing device is refused.
+ghost use Rattle.std.specs.Prelude.{◌≡◌, ◌⊎◌};
+ghost use Rattle.wb_geometry.specs.declared.which.Which.TheVariants.{Backing};
+ghost use Rattle.wb_tool.specs.Run.{lent, Took};
+ghost use Rattle.wb_tool.specs.Texts.{super_line, super_status, small_line};
+ghost use Rattle.wb_super.specs.declared.reading.SuperRefused.TheVariants.{Fault};
+
+use crate::status;
+use crate::texts::{LOG_FAILED, small_text, super_text, tell};
+use std::alloc::Global;
+use wb_device::Sink;
+use wb_geometry::Which;
+use wb_super::SuperRefused;
+
+/// Tells why the superblock is refused, or that it can't be read. Answers the status.
+pub fn refuse_log<K: Sink>(alloc: Global, sink: &mut K, refused: SuperRefused) -> u8
+    ensures told { (result ≡ 1) ⊎ ((result ≡ super_status refused)
+        × Took (lent (K.taken sink.old) (K.taken sink.new) (K.faults sink.old) (K.faults sink.new)) (super_line refused)) }
+    ensures fault { refused ≡ Fault → result ≡ 6 }
+{
+    if let SuperRefused::Fault = refused {
+        tell(sink, LOG_FAILED);
+        return status::LOG;
+    }
+    let Ok(text) = super_text(alloc, refused) else {
+        return status::MEMORY;
+    };
+    tell(sink, text.as_str());
+    match refused {
+        SuperRefused::Small { .. } => status::SMALL,
+        _ => status::IMAGE,
+    }
+}
+
+/// Tells that the backing device is too small. Answers the status.
+pub fn refuse_backing<K: Sink>(alloc: Global, sink: &mut K, has: u64, needs: u64) -> u8
+    ensures { (result ≡ 1) ⊎ ((result ≡ 9)
+        × Took (lent (K.taken sink.old) (K.taken sink.new) (K.faults sink.old) (K.faults sink.new)) (small_line Backing has needs)) }
+{
+    let Ok(text) = small_text(alloc, Which::Backing, has, needs) else {
+        return status::MEMORY;
+    };
+    tell(sink, text.as_str());
+    status::SMALL
+}
