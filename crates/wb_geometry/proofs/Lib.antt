@@ -1,3 +1,4 @@
+pub mod Blocks
 pub mod Disks
 pub mod Geometries
 pub mod Histories

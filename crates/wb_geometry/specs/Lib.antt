@@ -1,3 +1,4 @@
+pub mod Block
 pub mod Device
 pub mod Disk
 pub mod Geometry

@@ -4,10 +4,14 @@
 //! entries by place, and `after` says what a history makes of an image (docs/MODEL.md).
 #![tactic(auto)]
 
+mod block;
 mod geometry;
 mod request;
+mod spot;
 mod which;
 
+pub use block::Block;
 pub use geometry::{Geometry, GeometryRefused};
 pub use request::{Part, Places};
+pub use spot::Spot;
 pub use which::Which;

@@ -18,11 +18,12 @@ use Rattle.wb_tool.specs.Texts.{refused_line, small_line, super_line, super_stat
 use Rattle.wb_tool.specs.Opening.{EndsByLog, EndsByBacking}
 use Rattle.wb_tool.specs.Serve.{Serves, IsOpened, IsUnserved, ServeAccount}
 use Rattle.wb_tool.specs.Inspect.{InspectEnds, InspectAccount}
+use Rattle.wb_tool.specs.Slot.{SlotAccount}
 use Rattle.wb_tool.specs.Format.{FormatAccount}
 use Rattle.wb_tool.specs.declared.command.Numbers.{Numbers}
 use Rattle.wb_tool.specs.declared.command.Command.{Command}
-use Rattle.wb_tool.specs.declared.command.Command.TheVariants.{Format, Serve, Inspect}
-use Rattle.wb_tool.specs.Commands.{SpellNumbers, IsServe, IsInspect, IsFormat, IsForm}
+use Rattle.wb_tool.specs.declared.command.Command.TheVariants.{Format, Serve, Inspect, InspectSlot}
+use Rattle.wb_tool.specs.Commands.{SpellNumbers, IsServe, IsInspect, IsInspectSlot, IsFormat, IsForm}
 use Rattle.wb_tool.specs.Account.{IsAccounted, UsageAccount}
 use Rattle.std.proofs.lemmas.Fmt.{decimal_injective}
 
@@ -207,6 +208,7 @@ abbrev pub AccountOf : Command → Run → Type 0
 AccountOf (Format numbers) run = FormatAccount numbers run
 AccountOf Serve run = ServeAccount run
 AccountOf Inspect run = InspectAccount run
+AccountOf (InspectSlot slot) run = SlotAccount slot run
 
 -- words are of one form
 not_both : (words : List (List ℕ)) → IsServe words → IsInspect words → ⊥
@@ -217,6 +219,21 @@ serve_not_format numbers words serve format = let same = sym serve.are ∙ forma
 
 inspect_not_format : (numbers : Numbers) (words : List (List ℕ)) → IsInspect words → IsFormat numbers words → ⊥
 inspect_not_format numbers words inspect format = let same = sym inspect.are ∙ format.are in cc
+
+serve_not_slot : (slot : ℕ) (words : List (List ℕ)) → IsServe words → IsInspectSlot slot words → ⊥
+serve_not_slot slot words serve other = let same = sym serve.are ∙ other.are in cc
+
+inspect_not_slot : (slot : ℕ) (words : List (List ℕ)) → IsInspect words → IsInspectSlot slot words → ⊥
+inspect_not_slot slot words inspect other = let same = sym inspect.are ∙ other.are in cc
+
+slot_not_format : (slot : ℕ) (numbers : Numbers) (words : List (List ℕ)) → IsInspectSlot slot words → IsFormat numbers words → ⊥
+slot_not_format slot numbers words other format = let same = sym other.are ∙ format.are in cc
+
+same_slot : (words : List (List ℕ)) (slot other : ℕ) → IsInspectSlot slot words → IsInspectSlot other words → slot ≡ other
+same_slot words slot other first second =
+    let same = sym first.are ∙ second.are in
+    let number : first.number ≡ second.number = cc in
+    decimal_injective slot other first.fits second.fits (sym first.spelled ∙ number ∙ second.spelled)
 
 same_word : (order slots ram : List ℕ) (numbers : Numbers) → SpellNumbers order slots ram numbers → (o s r : List ℕ) (others : Numbers) → SpellNumbers o s r others
     → order ≡ o → slots ≡ s → ram ≡ r → numbers ≡ others
@@ -238,18 +255,28 @@ accounted (Format numbers) words run form account = record {
   serve = λ other. absurd (serve_not_format numbers words other form);
   format = λ others other. subst (λ n. FormatAccount n run) (same_numbers words numbers others form other) account;
   inspect = λ other. absurd (inspect_not_format numbers words other form);
+  slot = λ slot other. absurd (slot_not_format slot numbers words other form);
 }
 accounted Serve words run form account = record {
   usage = λ none. absurd (none Serve form);
   serve = λ _. account;
   format = λ numbers other. absurd (serve_not_format numbers words form other);
   inspect = λ other. absurd (not_both words form other);
+  slot = λ slot other. absurd (serve_not_slot slot words form other);
 }
 accounted Inspect words run form account = record {
   usage = λ none. absurd (none Inspect form);
   serve = λ other. absurd (not_both words other form);
   format = λ numbers other. absurd (inspect_not_format numbers words form other);
   inspect = λ _. account;
+  slot = λ slot other. absurd (inspect_not_slot slot words form other);
+}
+accounted (InspectSlot number) words run form account = record {
+  usage = λ none. absurd (none (InspectSlot number) form);
+  serve = λ other. absurd (serve_not_slot number words other form);
+  format = λ numbers other. absurd (slot_not_format number numbers words form other);
+  inspect = λ other. absurd (inspect_not_slot number words other form);
+  slot = λ slot other. subst (λ (n : ℕ). SlotAccount n run) (same_slot words number slot form other) account;
 }
 
 pub usage_accounted : (words : List (List ℕ)) (run : Run) → ((command : Command) → IsForm command words → ⊥) → UsageAccount run → IsAccounted words run
@@ -258,4 +285,5 @@ usage_accounted words run none account = record {
   serve = λ form. absurd (none Serve form);
   format = λ numbers form. absurd (none (Format numbers) form);
   inspect = λ form. absurd (none Inspect form);
+  slot = λ slot form. absurd (none (InspectSlot slot) form);
 }

@@ -21,6 +21,7 @@ use Rattle.wb_tool.specs.Texts.{super_status}
 use Rattle.wb_tool.specs.Opening.{EndsByLog, EndsByBacking}
 use Rattle.wb_tool.specs.Serve.{Serves, IsOpened, IsUnserved, ServeAccount}
 use Rattle.wb_tool.specs.Inspect.{InspectAccount}
+use Rattle.wb_tool.specs.Slot.{SlotAccount}
 use Rattle.wb_tool.specs.Format.{FormatAccount, FormatEnds, Asks, EndsAsked}
 use Rattle.wb_tool.specs.Account.{IsAccounted, IsComplete, TellsFormatted, IsScripted, NoLogFault, NoFault, Succeeds}
 
@@ -116,9 +117,29 @@ format_complete numbers r account fine some g asks room =
       ]
     ]
 
+slot_complete : (slot : ℕ) (r : Run) → IsDevice r.log_before → SlotAccount slot r → NoLogFault r → (g : Geometry) → TellsFormatted r g → slot < g.slots → Succeeds r
+slot_complete slot r device account fine g formatted below =
+    elim account.ends.ends [
+      | inl one ↦ inr one
+      | inr rest ↦ elim rest [
+        | inl by_log ↦ absurd (fine.log (account.ends.faults.failed
+            (log_fault r.sink r.log_before r.status formatted.image g device formatted.told formatted.text formatted.bounded by_log)))
+        | inr at_slot ↦ elim at_slot.ends [
+          | inl none ↦ absurd (
+              let same = same_geometry r.log_before formatted.image g at_slot.found formatted.told formatted.text at_slot.super in
+              omega (arith, none.above, ap (λ (h : Geometry). h.slots) same, below))
+          | inr rest ↦ elim rest [
+            | inl fault ↦ absurd (fine.log (account.ends.faults.failed fault.ended))
+            | inr told ↦ told_well r told.text fine told.told
+          ]
+        ]
+      ]
+    ]
+
 pub complete : (words : List (List ℕ)) (r : Run) → IsDevice r.log_before → IsAccounted words r → IsComplete words r
 complete words r device account = record {
   serve = λ form. serve_complete r device (account.serve form);
   format = λ numbers form. format_complete numbers r (account.format numbers form);
   inspect = λ form. inspect_complete r device (account.inspect form);
+  slot = λ slot form. slot_complete slot r device (account.slot slot form);
 }

@@ -7,3 +7,5 @@ pub mod Shapes
 pub mod Accounts
 pub mod Completeness
 pub mod Formatted
+pub mod SlotLines
+pub mod SlotEnds

@@ -6,3 +6,17 @@ pub inspected_shape : (version geometry recorded : List ℕ)
     → codes "version " ++ (version ++ (codes " " ++ (geometry ++ (codes " record " ++ (recorded ++ newline)))))
     ≡ codes "version " ++ version ++ codes " " ++ geometry ++ codes " record " ++ recorded ++ newline
 inspected_shape version geometry recorded = simp append_assoc refl
+
+pub entry_shape : (block bits : List ℕ)
+    → codes "block " ++ (block ++ (codes " bits " ++ (bits ++ newline))) ≡ codes "block " ++ block ++ codes " bits " ++ bits ++ newline
+entry_shape block bits = simp append_assoc refl
+
+pub segment_shape : (slot id size sum : List ℕ)
+    → codes "slot " ++ (slot ++ (codes " id " ++ (id ++ (codes " length " ++ (size ++ (codes " sum " ++ (sum ++ newline)))))))
+    ≡ (codes "slot " ++ slot) ++ codes " id " ++ id ++ codes " length " ++ size ++ codes " sum " ++ sum ++ newline
+segment_shape slot id size sum = simp append_assoc refl
+
+pub refused_shape : (slot id cause : List ℕ)
+    → codes "slot " ++ (slot ++ (codes " id " ++ (id ++ (codes " refused " ++ (cause ++ newline)))))
+    ≡ (codes "slot " ++ slot) ++ codes " id " ++ id ++ codes " refused " ++ cause ++ newline
+refused_shape slot id cause = simp append_assoc refl

@@ -1,5 +1,5 @@
 -- What a run answers for, by its words, and when it succeeds.
-use Rattle.std.specs.Prelude.{ℕ, ◌≡◌, ◌⊎◌, ◌≤◌, List, Some}
+use Rattle.std.specs.Prelude.{ℕ, ◌≡◌, ◌⊎◌, ◌<◌, ◌≤◌, List, Some}
 use Rattle.wb_geometry.specs.Image.{Image}
 use Rattle.wb_geometry.specs.Layout.{log_sectors}
 use Rattle.wb_geometry.specs.Device.{IsUncalled}
@@ -10,12 +10,13 @@ use Rattle.wb_script.specs.Content.{ScriptContent}
 use Rattle.wb_script.specs.Grammar.{IsScript}
 use Rattle.wb_tool.specs.declared.command.Command.{Command}
 use Rattle.wb_tool.specs.declared.command.Numbers.{Numbers}
-use Rattle.wb_tool.specs.Commands.{IsForm, IsServe, IsInspect, IsFormat}
+use Rattle.wb_tool.specs.Commands.{IsForm, IsServe, IsInspect, IsInspectSlot, IsFormat}
 use Rattle.wb_tool.specs.Run.{Run, HasFailed, IsUntouched, LogHasFailed, BackingHasFailed, NoSession, Took, script_bytes}
 use Rattle.wb_tool.specs.Texts.{usage_line}
 use Rattle.wb_tool.specs.Serve.{ServeAccount}
 use Rattle.wb_tool.specs.Format.{FormatAccount, Asks}
 use Rattle.wb_tool.specs.Inspect.{InspectAccount}
+use Rattle.wb_tool.specs.Slot.{SlotAccount}
 
 -- the words are of no form
 pub record UsageAccount (run : Run) : Type 0 where
@@ -25,12 +26,13 @@ pub record UsageAccount (run : Run) : Type 0 where
   pub unread : IsUntouched run.source
   pub log : IsUncalled run.log_before run.log_after
 
--- what a run answers for: its words are of one of three forms, or of none
+-- what a run answers for: its words are of one of four forms, or of none
 pub record IsAccounted (words : List (List ℕ)) (run : Run) : Type 0 where
   pub usage : ((command : Command) → IsForm command words → ⊥) → UsageAccount run
   pub serve : IsServe words → ServeAccount run
   pub format : (numbers : Numbers) → IsFormat numbers words → FormatAccount numbers run
   pub inspect : IsInspect words → InspectAccount run
+  pub slot : (slot : ℕ) → IsInspectSlot slot words → SlotAccount slot run
 
 -- the log device tells that it is formatted for this geometry, with a record that is taken
 pub record TellsFormatted (run : Run) (g : Geometry) : Type 0 where
@@ -68,3 +70,4 @@ pub record IsComplete (words : List (List ℕ)) (run : Run) : Type 0 where
   pub format : (numbers : Numbers) → IsFormat numbers words → NoLogFault run → 8 ≤ run.backing_before.sectors
       → (g : Geometry) → Asks numbers run.backing_before.sectors g → log_sectors g ≤ run.log_before.sectors → Succeeds run
   pub inspect : IsInspect words → NoLogFault run → (g : Geometry) → TellsFormatted run g → Succeeds run
+  pub slot : (slot : ℕ) → IsInspectSlot slot words → NoLogFault run → (g : Geometry) → TellsFormatted run g → slot < g.slots → Succeeds run

@@ -1,11 +1,11 @@
 -- The words behind the program's name (docs/SCRIPT.md). A number is in decimal digits, without a leading zero; the names
 -- of the two devices are any words.
-use Rattle.std.specs.Prelude.{ℕ, ◌≡◌, List, [], ◌∷◌, codes}
+use Rattle.std.specs.Prelude.{ℕ, ◌≡◌, ◌<◌, ◌^◌, List, [], ◌∷◌, codes}
 use Rattle.std.specs.Fmt.{decimal}
 use Rattle.wb_geometry.specs.Geometry.{IsOrder, IsSlots, IsRam}
 use Rattle.wb_tool.specs.declared.command.Numbers.{Numbers}
 use Rattle.wb_tool.specs.declared.command.Command.{Command}
-use Rattle.wb_tool.specs.declared.command.Command.TheVariants.{Format, Serve, Inspect}
+use Rattle.wb_tool.specs.declared.command.Command.TheVariants.{Format, Serve, Inspect, InspectSlot}
 
 -- three words spell these numbers, which are in their ranges
 pub record SpellNumbers (order slots ram : List ℕ) (numbers : Numbers) : Type 0 where
@@ -28,6 +28,15 @@ pub record IsInspect (words : List (List ℕ)) : Type 0 where
   pub backing : List ℕ
   pub are : words ≡ codes "inspect" ∷ log ∷ backing ∷ []
 
+-- `inspect LOG BACKING SLOT`, with any number
+pub record IsInspectSlot (slot : ℕ) (words : List (List ℕ)) : Type 0 where
+  pub log : List ℕ
+  pub backing : List ℕ
+  pub number : List ℕ
+  pub are : words ≡ codes "inspect" ∷ log ∷ backing ∷ number ∷ []
+  pub spelled : number ≡ decimal slot
+  pub fits : slot < 2 ^ 64
+
 -- `format LOG BACKING ORDER SLOTS RAM`, with numbers in their ranges
 pub record IsFormat (numbers : Numbers) (words : List (List ℕ)) : Type 0 where
   pub log : List ℕ
@@ -43,3 +52,4 @@ abbrev pub IsForm : Command → List (List ℕ) → Type 0
 IsForm (Format numbers) words = IsFormat numbers words
 IsForm Serve words = IsServe words
 IsForm Inspect words = IsInspect words
+IsForm (InspectSlot slot) words = IsInspectSlot slot words

@@ -9,4 +9,6 @@ pub mod Opening
 pub mod Serve
 pub mod Format
 pub mod Inspect
+pub mod SlotTexts
+pub mod Slot
 pub mod Account

@@ -65,6 +65,10 @@ super_status (refused.Sum stored computed) = 8
 super_status refused.Geometry = 8
 super_status (refused.Record found) = 8
 
+-- the line for a slot that the log doesn't have
+abbrev pub no_slot_line : (slot slots : ℕ) → List ℕ
+no_slot_line slot slots = codes "wblog: slot " ++ decimal slot ++ codes " is not below " ++ decimal slots ++ newline
+
 abbrev pub geometry_text : Geometry → List ℕ
 geometry_text g = codes "order " ++ decimal g.order ++ codes " slots " ++ decimal g.slots ++ codes " ram " ++ decimal g.ram
     ++ codes " backing " ++ decimal g.backing_sectors

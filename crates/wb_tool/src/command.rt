@@ -26,6 +26,8 @@ pub enum Command {
     Serve,
     /// Tells the superblock.
     Inspect,
+    /// Tells what is in a slot, counted from 0.
+    InspectSlot(u64),
 }
 
 /// The sectors of the smallest backing device.
@@ -39,6 +41,10 @@ pub fn command_of(words: &[String]) -> Option<Command>
         3 => match words[0].as_str() {
             "serve" => Some(Command::Serve),
             "inspect" => Some(Command::Inspect),
+            _ => None,
+        },
+        4 => match words[0].as_str() {
+            "inspect" => Some(Command::InspectSlot(number(words[3].as_bytes())?)),
             _ => None,
         },
         6 => match words[0].as_str() {

@@ -11,6 +11,7 @@ mod reading;
 mod run;
 mod serving;
 mod session;
+mod slots;
 mod status;
 mod texts;
 

@@ -8,6 +8,7 @@ use crate::command::{Command, command_of};
 use crate::formatting::format_log;
 use crate::inspecting::inspect_log;
 use crate::serving::serve;
+use crate::slots::inspect_slot;
 use crate::status;
 use crate::texts::{USAGE, tell};
 use std::alloc::Global;
@@ -54,7 +55,7 @@ impl Ended {
 /// `serve LOG BACKING` reads the superblock of the log, and the script from the source, and serves it: the answers go to
 /// the sink, and at the end the backing device holds what the script wrote. `format LOG BACKING ORDER SLOTS RAM` makes an
 /// empty log for the whole blocks of the backing device, and `inspect LOG BACKING` tells the superblock and the record of
-/// one. Words of another form are refused. Where no session began, the backing device is as it was, and only `format`
+/// one; with a number behind it, what is in that slot. Words of another form are refused. Where no session began, the backing device is as it was, and only `format`
 /// writes to the log. At status 1, want of memory, nothing is said of the output, nor for `serve` of the backing device.
 pub fn run_single<S: Source, K: Sink, L: Device, B: Device>(
     alloc: Global,
@@ -112,6 +113,10 @@ fn obey<S: Source, K: Sink, L: Device, B: Device>(
             Ended::without_session(alloc, status)
         }
         Some(Command::Serve) => serve(alloc, source, sink, log, backing),
+        Some(Command::InspectSlot(slot)) => {
+            let status = inspect_slot(alloc, sink, log, slot);
+            Ended::without_session(alloc, status)
+        }
         Some(Command::Inspect) => {
             let status = inspect_log(alloc, sink, log);
             Ended::without_session(alloc, status)

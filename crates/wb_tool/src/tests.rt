@@ -5,6 +5,7 @@ mod formats;
 mod limits;
 mod refusals;
 mod sessions;
+mod slots;
 mod streams;
 
 use crate::{Outcome, run_single};

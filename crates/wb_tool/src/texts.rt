@@ -62,7 +62,7 @@ pub fn super_text(alloc: Global, refused: SuperRefused) -> Result<String, AllocE
 }
 
 /// A checksum in eight hexadecimal digits.
-fn sum_text(alloc: Global, sum: u32) -> Result<String, AllocError>
+pub fn sum_text(alloc: Global, sum: u32) -> Result<String, AllocError>
     ensures { IfOk result (λ text. string_bytes text ≡ sum_text sum) }
 {
     hex::encode(alloc, &sum.to_be_bytes())

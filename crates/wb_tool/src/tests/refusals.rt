@@ -97,7 +97,7 @@ const NO_FORM: [&str; 12] = [
     "serve LOG",
     "serve LOG BACKING X",
     "Serve LOG BACKING",
-    "inspect LOG BACKING 0",
+    "inspect LOG BACKING x",
     "format LOG BACKING 5 4",
     "format LOG BACKING 3 4 2",
     "format LOG BACKING 11 4 2",

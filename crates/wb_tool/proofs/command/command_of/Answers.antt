@@ -15,7 +15,7 @@ returns-in-inspect c =
 
 pub returns-in_ok-numbers-in-format : goal.returns-in_ok-numbers-in-format
 returns-in_ok-numbers-in-format c =
-    let order = c.index-words-3 in
+    let order = c.index-words-3-in-format in
     let slots = c.index-words-4 in
     let ram = c.index-words-5 in
     let words = six_words string_bytes c.args.words.now c.index-words-0-in-6.result order.result slots.result ram.result _ c.in-6.is c.index-words-0-in-6.is order.is slots.is ram.is

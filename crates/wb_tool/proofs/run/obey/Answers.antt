@@ -1,8 +1,9 @@
 use Rattle.std.proofs.Common.{map, subst}
 use Rattle.std.specs.String.{string_bytes}
 use Rattle.wb_tool.specs.Commands.{IsForm}
+use Rattle.wb_tool.proofs.SlotEnds.{slot_ends}
 use Rattle.wb_geometry.proofs.Moments.{uncalled}
-use Rattle.wb_tool.specs.declared.command.Command.TheVariants.{Format}
+use Rattle.wb_tool.specs.declared.command.Command.TheVariants.{Format, InspectSlot}
 use Rattle.wb_tool.proofs.Accounts.{accounted, usage_accounted, no_session, untouched}
 use Rattle.wb_tool.proofs.Formatted.{format_ends}
 use Rattle.wb_tool.proofs.run.obey.Goals as goal
@@ -25,4 +26,13 @@ returns-in-Some-Format g c =
       no_session = no_session _ _ _ _ _ _ _ _ ended.transcripts ended.places;
       unread = untouched _ _;
       ends = format_ends _ _ _ _ _ _ _ _ c.sectors.ensures ended.status c.format_log-status.ensures;
+    })
+
+pub returns-in-Some-InspectSlot : goal.returns-in-Some-InspectSlot
+returns-in-Some-InspectSlot g c =
+    let ended = c.without_session-in-Some-InspectSlot.ensures in
+    accounted (InspectSlot c.in-Some-InspectSlot.slot) _ _ (subst (λ command. IsForm command (map string_bytes c.args.words.now)) c.in-Some-InspectSlot.field-0-is c.in-Some-InspectSlot.ensures) (record {
+      no_session = no_session _ _ _ _ _ _ _ _ ended.transcripts ended.places;
+      unread = untouched _ _;
+      ends = slot_ends _ _ _ _ _ _ ended.status c.inspect_slot-status.ensures;
     })

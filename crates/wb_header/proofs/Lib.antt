@@ -1,0 +1,3 @@
+pub mod Checkings
+pub mod Spellings
+pub mod Writing

@@ -1,0 +1,5 @@
+pub mod Text
+pub mod Segments
+pub mod Writing
+pub mod Refused
+pub mod Firsts

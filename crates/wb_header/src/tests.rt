@@ -1,0 +1,4 @@
+//! Texts of segments, by their bytes.
+
+mod checking;
+mod encoding;
