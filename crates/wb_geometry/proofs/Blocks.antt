@@ -1,5 +1,5 @@
 -- The bytes of a block: zeros where no bit is set, also after a part was laid out or a later block was joined.
-use Rattle.std.proofs.Common.{ℕ, ◌≡◌, ◌≢◌, ◌⊎◌, ◌+◌, ◌-◌, ◌*◌, ◌/◌, ◌%◌, ◌^◌, ◌<◌, ◌≤◌, List, length, get_or, take, drop, ◌++◌, replicate, max, sym, ◌∙◌, ap, inl, inr, arith, length-append, length-drop}
+use Rattle.std.proofs.Common.{ℕ, ◌≡◌, ◌≢◌, ◌⊎◌, ◌+◌, ◌-◌, ◌*◌, ◌/◌, ◌%◌, ◌^◌, ◌<◌, ◌≤◌, List, length, get_or, take, drop, ◌++◌, replicate, max, sym, ◌∙◌, ap, inl, inr, arith, length-append, length-drop, Some}
 use borrow.Rule.Slice.PartMut.{put_mid}
 use Rattle.std.specs.Int.{bit_at}
 use Rattle.std.specs.Prelude.{bit_or}
@@ -11,7 +11,9 @@ use Rattle.std.proofs.lemmas.Nat.{pow-add, pow_pos}
 use Rattle.std.proofs.lemmas.Nat.Bits.{ones_shr, bit_at_mask_inside, bit_at_or, bit_at-lt}
 use Rattle.wb_geometry.specs.Image.{sector, sectors_of}
 use Rattle.wb_geometry.specs.Block.{IsClean, part_payload, joined_sector, joined_byte}
+use Rattle.wb_geometry.specs.History.{Write, written, later}
 use Rattle.wb_geometry.proofs.Images.{sector-sectors_of}
+use Rattle.wb_geometry.proofs.Histories.{written-inside, written-before, written-behind, written-clear}
 use Rattle.wb_geometry.specs.declared.request.Part.{Part}
 
 one_less : (k n : ℕ) → k * n ≡ n * (k + 1) - n
@@ -112,3 +114,55 @@ sector-join later_bits old later new i old_size later_size new_size below joined
         ∙ ext_get_or 0 (take 512 (drop (512 * i) new)) (take 512 (drop (512 * i) from)) (sized new new_size ∙ sym (sized from size))
         (λ k less. read new k (omega (arith, sized new new_size)) ∙ each (512 * i + k) (omega arith) (omega (arith, sized new new_size)) ∙ sym (read from k (omega (arith, sized new new_size))))
         ∙ sym (sector-sectors_of from i (omega arith))
+
+joined_set : (i : ℕ) (old : List ℕ) (later_bits : ℕ) (over : List ℕ) → bit_at later_bits i ≡ 1 → joined_sector i old later_bits over ≡ sector (sectors_of over) i
+joined_set i old later_bits over is = grind (arith, nat_tests)
+
+joined_unset : (i : ℕ) (old : List ℕ) (later_bits : ℕ) (over : List ℕ) → bit_at later_bits i ≢ 1 → joined_sector i old later_bits over ≡ sector (sectors_of old) i
+joined_unset i old later_bits over unset = grind (arith, nat_tests)
+
+-- a bit of both
+bit_of_both : (old_bits later_bits i : ℕ) → bit_at later_bits i ≡ 1 → bit_at (bit_or old_bits later_bits) i ≡ 1
+bit_of_both old_bits later_bits i is = bit_at_or old_bits later_bits i ∙ (omega (arith, is, bit_at-lt old_bits i))
+
+bit_of_old : (old_bits later_bits i : ℕ) → bit_at later_bits i ≢ 1 → bit_at (bit_or old_bits later_bits) i ≡ bit_at old_bits i
+bit_of_old old_bits later_bits i unset = bit_at_or old_bits later_bits i ∙ (omega (arith, unset, bit_at-lt later_bits i))
+
+unset_is_zero : (bits i : ℕ) → bit_at bits i ≢ 1 → bit_at bits i ≡ 0
+unset_is_zero bits i unset = omega (arith, unset, bit_at-lt bits i)
+
+joined_inside : (k block old_bits later_bits : ℕ) (old new over : List ℕ) → 8 * block ≤ k → k < 8 * block + 8 → sector (sectors_of new) (k - 8 * block) ≡ joined_sector (k - 8 * block) old later_bits over
+    → written k (Write 0 block (bit_or old_bits later_bits) new) ≡ later (written k (Write 0 block old_bits old)) (written k (Write 0 block later_bits over))
+joined_inside k block old_bits later_bits old new over from inside joined =
+    let i : ℕ = k - 8 * block in
+    let before = written k (Write 0 block old_bits old) in
+    elim (cases_eq (bit_at later_bits i) 1) [
+      | inl is ↦
+          written-inside 0 block (bit_or old_bits later_bits) new k from inside (bit_of_both old_bits later_bits i is)
+          ∙ ap (λ (s : List ℕ). Some s) (joined ∙ joined_set i old later_bits over is)
+          ∙ sym (ap (later before) (written-inside 0 block later_bits over k from inside is))
+      | inr unset ↦ elim (cases_eq (bit_at old_bits i) 1) [
+        | inl was ↦
+            written-inside 0 block (bit_or old_bits later_bits) new k from inside (bit_of_old old_bits later_bits i unset ∙ was)
+            ∙ ap (λ (s : List ℕ). Some s) (joined ∙ joined_unset i old later_bits over unset)
+            ∙ sym (ap (later before) (written-clear 0 block later_bits over k (unset_is_zero later_bits i unset)) ∙ written-inside 0 block old_bits old k from inside was)
+        | inr none ↦
+            written-clear 0 block (bit_or old_bits later_bits) new k (bit_of_old old_bits later_bits i unset ∙ unset_is_zero old_bits i none)
+            ∙ sym (ap (later before) (written-clear 0 block later_bits over k (unset_is_zero later_bits i unset)) ∙ written-clear 0 block old_bits old k (unset_is_zero old_bits i none))
+      ]
+    ]
+
+-- a block with a later one over it writes what the later one writes, and else what it wrote
+pub written-join : (k block old_bits later_bits : ℕ) (old new over : List ℕ) → ((i : ℕ) → i < 8 → sector (sectors_of new) i ≡ joined_sector i old later_bits over)
+    → written k (Write 0 block (bit_or old_bits later_bits) new) ≡ later (written k (Write 0 block old_bits old)) (written k (Write 0 block later_bits over))
+written-join k block old_bits later_bits old new over joined = elim (cases_lt k (8 * block)) [
+  | inl before ↦
+      written-before 0 block (bit_or old_bits later_bits) new k before
+      ∙ sym (ap (later (written k (Write 0 block old_bits old))) (written-before 0 block later_bits over k before) ∙ written-before 0 block old_bits old k before)
+  | inr from ↦ elim (cases_lt k (8 * block + 8)) [
+    | inl inside ↦ joined_inside k block old_bits later_bits old new over from inside (joined (k - 8 * block) (omega arith))
+    | inr behind ↦
+        written-behind 0 block (bit_or old_bits later_bits) new k behind
+        ∙ sym (ap (later (written k (Write 0 block old_bits old))) (written-behind 0 block later_bits over k behind) ∙ written-behind 0 block old_bits old k behind)
+  ]
+]

@@ -1,5 +1,7 @@
--- Geometries of the same numbers are the same.
-use Rattle.std.proofs.Common.{◌≡◌, ℕ, ap, subst}
+-- The numbers of a geometry; those of the same numbers are the same.
+use Rattle.std.proofs.Common.{◌≡◌, ◌≤◌, ◌-◌, ◌*◌, ◌%◌, ◌^◌, ℕ, ap, subst, arith}
+use Rattle.std.proofs.Math.Pow.{pow_mono}
+use Rattle.wb_geometry.specs.Layout.{places}
 use Rattle.std.proofs.Props.{props}
 use Rattle.wb_geometry.specs.Geometry.{IsOrder, IsSlots, IsRam, IsBacking}
 use Rattle.wb_geometry.specs.declared.geometry.Geometry.{Geometry}
@@ -33,3 +35,24 @@ pub same_numbers : (g h : Geometry) → g.order ≡ h.order → g.slots ≡ h.sl
 same_numbers g h order slots ram backing =
     one_of_numbers (g.order, g.slots, g.ram, g.backing_sectors) (h.order, h.slots, h.ram, h.backing_sectors)
     (g.order_fits, g.slots_fit, g.ram_fits, g.backing_fits) (h.order_fits, h.slots_fit, h.ram_fits, h.backing_fits) (cc)
+
+-- a power of two for a segment's places, and a sector for the header
+powers : (order : ℕ) → 4 ≤ order → order ≤ 10 → (2 ≤ 2 ^ (order - 3)) × (2 ^ (order - 3) ≤ 128)
+powers order low high =
+    let l : 1 ≤ order - 3 = omega (arith, low) in
+    let h : order - 3 ≤ 7 = omega (arith, high) in
+    (pow_mono l, pow_mono h)
+
+-- a segment has 1 to 127 places
+pub places_few : (g : Geometry) → (1 ≤ places g) × (places g ≤ 127)
+places_few g =
+    let p : (2 ≤ 2 ^ (g.order - 3)) × (2 ^ (g.order - 3) ≤ 128) = powers g.order g.order_fits.0 g.order_fits.1 in
+    let l : 1 ≤ 2 ^ (g.order - 3) - 1 = omega (arith, p.0) in
+    let h : 2 ^ (g.order - 3) - 1 ≤ 127 = omega (arith, p.1) in
+    (l, h)
+
+-- the code's shift, which doesn't leave its width
+pub places_shifted : (g : Geometry) → 1 * 2 ^ (g.order - 3) % 18446744073709551616 - 1 ≡ places g
+places_shifted g =
+    let p : (2 ≤ 2 ^ (g.order - 3)) × (2 ^ (g.order - 3) ≤ 128) = powers g.order g.order_fits.0 g.order_fits.1 in
+    omega (arith, p.0, p.1)

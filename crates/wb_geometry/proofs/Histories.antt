@@ -1,17 +1,18 @@
 -- What entries do to an image, sector by sector, and the entries of a write request.
-use Rattle.std.proofs.Common.{ℕ, suc, zero, ◌≡◌, ◌≢◌, ◌+◌, ◌-◌, ◌*◌, ◌/◌, ◌<◌, ◌≤◌, List, [], ◌∷◌, ◌++◌, map, length, get_or, take, drop, max, replicate, inl, inr, Option, Some, None, refl, ap, sym, ◌∙◌, subst, arith}
-use Rattle.std.specs.List.{All, enumerate_from, range_with_len, sum_by}
+use Rattle.std.proofs.Common.{ℕ, suc, zero, ◌≡◌, ◌≢◌, ◌⊎◌, ◌+◌, ◌-◌, ◌*◌, ◌/◌, ◌<◌, ◌≤◌, List, [], ◌∷◌, ◌++◌, map, length, get_or, take, drop, max, replicate, inl, inr, Option, Some, None, refl, ap, sym, ◌∙◌, subst, arith}
+use Rattle.std.specs.List.{All, Contains, enumerate_from, range_with_len, sum_by}
 use Rattle.std.specs.Int.{bit_at}
 use Rattle.std.proofs.lemmas.Bool.{cases_lt, cases_eq, cond-false, ne_eqb}
 use Rattle.std.proofs.lemmas.Bool.Decides.{nat_tests}
-use Rattle.std.proofs.lemmas.List.Elements.{All-nil, All-cons}
+use Rattle.std.proofs.lemmas.List.Elements.{All-nil, All-cons, All-contains, All-contains_itself, Contains-get_or, Contains-append_right}
 use Rattle.std.proofs.lemmas.List.Sums.{sum_by-cons}
 use Rattle.std.proofs.lemmas.Nat.Bits.{bit_at-lt, bit_at_mask_inside, bit_at_mask_below, bit_at_mask_above}
-use Rattle.std.proofs.lemmas.List.{length-map, get_or-map, ext_get_or, drop_more, append-nil, take_all, drop-drop, append_assoc, length-append, length-replicate, length-drop, length-take-le, take-take, drop-take, drop_at, drop-append-le, take-append-le}
+use Rattle.std.proofs.lemmas.List.{length-map, get_or_past, get_or-map, ext_get_or, get_or-drop, drop_more, take_more, append-nil, take_all, drop-drop, append_assoc, length-append, length-replicate, length-drop, length-take-le, take-take, drop-take, drop_at, drop-append-le, take-append-le}
+use Rattle.std.proofs.lemmas.Grind.{flat_map-append}
 use Rattle.std.proofs.lemmas.List.FromFn.{length-enumerate_from, get_or-enumerate_from, length-map-range_with_len, get_or-map-range_with_len}
 use Rattle.wb_geometry.specs.declared.request.Part.{Part}
 use Rattle.wb_geometry.specs.Image.{Image, IsImage, sector, sectors_of, bytes_of, bytes_at, overlay}
-use Rattle.wb_geometry.specs.History.{HistoryEntry, Write, Void, written, standing, put, after, later, last_write}
+use Rattle.wb_geometry.specs.History.{HistoryEntry, Write, Void, written, standing, put, after, later, last_write, PutsPartly}
 use Rattle.wb_geometry.proofs.Images.{length-sectors_of, sector-sectors_of, sectors_of-one, length-overlay, sector-overlay_before, sector-overlay_inside, sector-overlay_behind}
 use Rattle.wb_geometry.specs.Requests.{part_in, blocks_touched, parts, entry_of, entries_of}
 
@@ -82,6 +83,14 @@ images_equal x y l each = ext_get_or [] x y l each
 -- the bytes of one sector
 pub bytes_at-one : (x : Image) (s : ℕ) → s < length x → bytes_at x s 1 ≡ sector x s
 bytes_at-one x s h = ap (λ (y : Image). bytes_of (take 1 y)) (drop_more x s [] h) ∙ append-nil (sector x s)
+
+-- the bytes of one sector more
+pub bytes_at_more : (x : Image) (at count : ℕ) → at + count < length x → bytes_at x at (count + 1) ≡ bytes_at x at count ++ sector x (at + count)
+bytes_at_more x at count h =
+    let below : count < length (drop at x) = omega (arith, length-drop at x) in
+    ap bytes_of (take_more (drop at x) count [] below)
+    ∙ flat_map-append (λ (s : List ℕ). s) (take count (drop at x)) (get_or (drop at x) count [] ∷ [])
+    ∙ ap (λ (bytes : List ℕ). bytes_at x at count ++ bytes) (append-nil (get_or (drop at x) count []) ∙ get_or-drop at x count [])
 
 -- the bytes of one sector after entries
 pub bytes_at-after_one : (x : Image) (es : List HistoryEntry) (s : ℕ) → s < length x → bytes_at (after x es) s 1 ≡ standing (sector x s) (last_write s es)
@@ -477,3 +486,85 @@ IsSplit-parts s zero = record {
   total = refl;
 }
 IsSplit-parts s (suc n) = split_some s (suc n) (omega arith)
+
+-- ---- putting partly
+
+later_cases : (a b : Option (List ℕ)) (t : List ℕ) → later a b ≡ Some t → (a ≡ Some t) ⊎ (b ≡ Some t)
+later_cases a None t is = inl is
+later_cases a (Some u) t is = inr is
+
+-- the last write is that of some entry
+last_write-by : (k : ℕ) (es : List HistoryEntry) (t : List ℕ) → last_write k es ≡ Some t → (e : HistoryEntry) × Contains es e × (written k e ≡ Some t)
+last_write-by k [] t is = absurd (cc)
+last_write-by k (e ∷ es) t is = elim (later_cases (written k e) (last_write k es) t is) [
+  | inl here ↦ (e, Contains-get_or (e ∷ es) 0 e (omega arith), here)
+  | inr there ↦ let by = last_write-by k es t there in (by.0, Contains-append_right (e ∷ []) es by.0 by.1, by.2)
+]
+
+stood : (es fs : List HistoryEntry) (x : Image) (i : ℕ) (now : List ℕ) (last : Option (List ℕ)) → All (Contains es) fs → last_write i fs ≡ last → now ≡ standing (sector x i) last
+    → (now ≡ sector x i) ⊎ ((e : HistoryEntry) × Contains es e × (written i e ≡ Some now))
+stood es fs x i now None all was is = inl is
+stood es fs x i now (Some t) all was is =
+    let by = last_write-by i fs t was in
+    inr (by.0, All-contains (Contains es) fs by.0 all by.1, by.2 ∙ ap (λ (s : List ℕ). Some s) (sym is))
+
+-- some of the entries, put whole
+pub puts_some : (es fs : List HistoryEntry) (x : Image) → All (Contains es) fs → PutsPartly es x (after x fs)
+puts_some es fs x all = record {
+  size = length-after x fs;
+  each = λ i. elim (cases_lt i (length x)) [
+    | inl lt ↦ stood es fs x i (sector (after x fs) i) (last_write i fs) all refl (sector-after x fs i lt)
+    | inr past ↦ inl (get_or_past (after x fs) i [] (omega (arith, length-after x fs)) ∙ sym (get_or_past x i [] past))
+  ];
+}
+
+-- all of them
+pub puts_all : (es : List HistoryEntry) (x : Image) → PutsPartly es x (after x es)
+puts_all es x = puts_some es es x (All-contains_itself es)
+
+-- some of them, and then some of entries that are among them
+pub puts_then : (es fs : List HistoryEntry) (x y z : Image) → All (Contains es) fs → PutsPartly es x y → PutsPartly fs y z → PutsPartly es x z
+puts_then es fs x y z all first second = record {
+  size = second.size ∙ first.size;
+  each = λ i. elim (second.each i) [
+    | inl same ↦ elim (first.each i) [
+      | inl was ↦ inl (same ∙ was)
+      | inr by ↦ inr (by.0, by.1, by.2 ∙ ap (λ (s : List ℕ). Some s) (sym same))
+    ]
+    | inr by ↦ inr (by.0, All-contains (Contains es) fs by.0 all by.1, by.2)
+  ];
+}
+
+-- ---- the last writes alone
+
+-- entries with the same last writes make the same image
+pub after_same : (es fs : List HistoryEntry) (x : Image) → ((k : ℕ) → last_write k es ≡ last_write k fs) → after x es ≡ after x fs
+after_same es fs x same =
+    images_equal (after x es) (after x fs) (length-after x es ∙ sym (length-after x fs))
+    (λ k h.
+    let l : k < length x = omega (arith, length-after x es) in
+    sector-after x es k l ∙ ap (standing (sector x k)) (same k) ∙ sym (sector-after x fs k l))
+
+-- each sector of y is as it was in x, or as the last of the entries that write it does
+pub record PutsLast (entries : List HistoryEntry) (x y : Image) : Type 0 where
+  pub size : length y ≡ length x
+  pub each : (i : ℕ) → (sector y i ≡ sector x i) ⊎ (last_write i entries ≡ Some (sector y i))
+
+pub PutsLast-same : (es fs : List HistoryEntry) (x y : Image) → ((k : ℕ) → last_write k es ≡ last_write k fs) → PutsLast es x y → PutsLast fs x y
+PutsLast-same es fs x y same last = record {
+  size = last.size;
+  each = λ i. elim (last.each i) [
+    | inl kept ↦ inl kept
+    | inr put ↦ inr (sym (same i) ∙ put)
+  ];
+}
+
+-- so it is as one of them writes it
+pub PutsPartly-from_last : (es : List HistoryEntry) (x y : Image) → PutsLast es x y → PutsPartly es x y
+PutsPartly-from_last es x y last = record {
+  size = last.size;
+  each = λ i. elim (last.each i) [
+    | inl kept ↦ inl kept
+    | inr put ↦ inr (last_write-by i es (sector y i) put)
+  ];
+}

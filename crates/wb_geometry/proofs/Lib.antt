@@ -4,3 +4,4 @@ pub mod Geometries
 pub mod Histories
 pub mod Images
 pub mod Moments
+pub mod Lines

@@ -1,5 +1,5 @@
 -- Entries, histories, and what they make of an image.
-use Rattle.std.specs.Prelude.{ℕ, ◌+◌, ◌-◌, ◌*◌, List, [], ◌∷◌, map, nat_le, nat_lt, ◌&&◌, ◌==◌, if◌then◌else◌, Option, Some, None}
+use Rattle.std.specs.Prelude.{ℕ, ◌≡◌, ◌⊎◌, ◌+◌, ◌-◌, ◌*◌, ◌≤◌, List, [], ◌∷◌, length, map, nat_le, nat_lt, ◌&&◌, ◌==◌, if◌then◌else◌, Option, Some, None, Contains}
 use Rattle.std.specs.List.{enumerate_from}
 use Rattle.std.specs.Int.{bit_at}
 use Rattle.wb_geometry.specs.Image.{Image, sector, sectors_of}
@@ -45,3 +45,17 @@ later before None = before
 abbrev pub last_write : ℕ → List HistoryEntry → Option (List ℕ)
 last_write k [] = None
 last_write k (entry ∷ entries) = later (written k entry) (last_write k entries)
+
+-- none of the entries writes sector k
+abbrev pub IsUnwritten : ℕ → List HistoryEntry → Type 0
+IsUnwritten k entries = last_write k entries ≡ None
+
+-- each sector of y is as it was in x, or as one of the entries writes it: no sector changes that none of them writes
+pub record PutsPartly (entries : List HistoryEntry) (x y : Image) : Type 0 where
+  pub size : length y ≡ length x
+  pub each : (i : ℕ) → (sector y i ≡ sector x i) ⊎ ((entry : HistoryEntry) × Contains entries entry × (written i entry ≡ Some (sector y i)))
+
+-- the block of the entry is inside a device of so many sectors
+abbrev pub IsBlockInside : ℕ → HistoryEntry → Type 0
+IsBlockInside sectors (Write client block bits payload) = 8 * block + 8 ≤ sectors
+IsBlockInside sectors (Void client) = Unit {0}

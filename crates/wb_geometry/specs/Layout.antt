@@ -1,5 +1,5 @@
 -- Where things lie in the log, in sectors (docs/FORMAT.md).
-use Rattle.std.specs.Prelude.{ℕ, ◌+◌, ◌-◌, ◌*◌, ◌%◌, ◌^◌}
+use Rattle.std.specs.Prelude.{ℕ, ◌+◌, ◌-◌, ◌*◌, ◌/◌, ◌%◌, ◌^◌}
 use Rattle.wb_geometry.specs.declared.geometry.Geometry.{Geometry}
 
 -- a slot has so many sectors
@@ -17,3 +17,11 @@ log_sectors g = slot_at g g.slots
 -- where the slot of a segment begins: segments are numbered from 1, and take the slots in turn
 abbrev pub slot_start : Geometry → ℕ → ℕ
 slot_start g id = slot_at g ((id - 1) % g.slots)
+
+-- a segment has so many places: one for each block that fits a slot behind the header
+abbrev pub places : Geometry → ℕ
+places g = 2 ^ (g.order - 3) - 1
+
+-- the segment that a place of a session belongs to, where `first` was the record at the session's start
+abbrev pub segment_of : Geometry → (place first : ℕ) → ℕ
+segment_of g place first = first + 1 + place / places g

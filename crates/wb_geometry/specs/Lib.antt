@@ -1,8 +1,10 @@
 pub mod Block
 pub mod Device
 pub mod Disk
+pub mod Entering
 pub mod Geometry
 pub mod Image
 pub mod History
 pub mod Layout
+pub mod Line
 pub mod Requests

@@ -42,31 +42,31 @@ fn laid_out(part: &Part, bytes: &[u8]) -> [u8; BLOCK_BYTES]
     payload
 }
 
-/// Puts sector `index` of a later block over that of these bytes, where its bit is set.
-fn join_sector(payload: &mut [u8; BLOCK_BYTES], later: &Block, index: usize)
-    requires { index < 8 }
+/// Puts sector `index` of a later block with these dirty bits over that of these bytes, where its bit is set.
+fn join_sector(payload: &mut [u8; BLOCK_BYTES], bits: u8, later: &[u8], index: usize)
+    requires sector { index < 8 }
+    requires size { length later.now ≡ 4096 }
     ensures size { length payload.new ≡ 4096 }
     ensures inside { (at : ℕ) → 512 * index ≤ at → at < 512 * index + 512
-        → slice_index payload.new at ≡ joined_byte at payload.old later.now.bits later.now.payload }
+        → slice_index payload.new at ≡ joined_byte at payload.old bits later.now }
     ensures before { (at : ℕ) → at < 512 * index → slice_index payload.new at ≡ slice_index payload.old at }
     ensures behind { (at : ℕ) → 512 * index + 512 ≤ at → slice_index payload.new at ≡ slice_index payload.old at }
 {
-    if later.bits >> index & 1 == 1 {
+    if bits >> index & 1 == 1 {
         let start = index * SECTOR_BYTES;
-        payload[start..start + SECTOR_BYTES].copy_from_slice(
-            &later.payload[start..start + SECTOR_BYTES],
-        );
+        payload[start..start + SECTOR_BYTES].copy_from_slice(&later[start..start + SECTOR_BYTES]);
     }
 }
 
 /// Puts the sectors of a later block whose bits are set over those of these bytes.
-fn join_sectors(payload: &mut [u8; BLOCK_BYTES], later: &Block)
+pub fn join_sectors(payload: &mut [u8; BLOCK_BYTES], bits: u8, later: &[u8])
+    requires { length later.now ≡ 4096 }
     ensures size { length payload.new ≡ 4096 }
     ensures joined { (at : ℕ) → at < 4096
-        → slice_index payload.new at ≡ joined_byte at payload.old later.now.bits later.now.payload }
+        → slice_index payload.new at ≡ joined_byte at payload.old bits later.now }
 {
     for index in 0..8 {
-        join_sector(payload, later, index);
+        join_sector(payload, bits, later, index);
     }
 }
 
@@ -96,7 +96,7 @@ impl Block {
         ensures payload { (i : ℕ) → i < 8
             → sector (sectors_of self.new.payload) i ≡ joined_sector i self.old.payload later.now.bits later.now.payload }
     {
-        join_sectors(&mut self.payload, later);
+        join_sectors(&mut self.payload, later.bits, &later.payload);
         self.bits |= later.bits;
     }
 }

@@ -38,7 +38,7 @@ const FIRST_SLOT: u64 = 2048;
 impl Geometry {
     ghost use Rattle.std.specs.Prelude.{◌≡◌, ◌≤◌, IfOk, IfErr};
     ghost use Rattle.wb_geometry.specs.Geometry.{Refuses};
-    ghost use Rattle.wb_geometry.specs.Layout.{slot_sectors, log_sectors, slot_start};
+    ghost use Rattle.wb_geometry.specs.Layout.{slot_sectors, log_sectors, slot_start, places, segment_of};
 
     /// The geometry of these numbers, or the first of them, in this order, that is out of its range.
     pub fn new(
@@ -87,6 +87,25 @@ impl Geometry {
         FIRST_SLOT + self.slot_sectors() * u64::from(self.slots)
     }
 
+    /// The places of a segment, which are the cache blocks that fit a slot: 1 to 127.
+    pub fn places(&self) -> u64
+        ensures places { result ≡ places self.now }
+        ensures some { 1 ≤ result }
+        ensures few { result ≤ 127 }
+    {
+        (1 << (self.order - 3)) - 1
+    }
+
+    /// The segment that a place of a session belongs to, where `first` was the record at the session's start. Both are at
+    /// most `2 ^ 55`.
+    pub fn segment_of(&self, place: u64, first: u64) -> u64
+        requires place { place ≤ 2 ^ 55 }
+        requires first { first ≤ 2 ^ 55 }
+        ensures { result ≡ segment_of self.now place first }
+    {
+        first + 1 + place / self.places()
+    }
+
     /// The sector where the slot of segment `id` begins. Segments are numbered from 1, and take the slots in turn.
     pub fn slot_start(&self, id: u64) -> u64
         requires { 1 ≤ id }
@@ -131,6 +150,10 @@ mod tests {
         assert_eq!(rt; geometry.log_sectors(), 2176);
         for (id, start) in [(1, 2048), (2, 2080), (4, 2144), (5, 2048), (u64::MAX, 2112)] {
             assert_eq!(rt; geometry.slot_start(id), start, "of segment {id}");
+        }
+        assert_eq!(rt; geometry.places(), 3);
+        for (place, id) in [(0, 5), (2, 5), (3, 6), (1 << 55, 12009599006321327)] {
+            assert_eq!(rt; geometry.segment_of(place, 4), id, "of place {place}");
         }
         Ok(())
     }

@@ -5,12 +5,14 @@
 #![tactic(auto)]
 
 mod block;
+mod entry;
 mod geometry;
 mod request;
 mod spot;
 mod which;
 
-pub use block::Block;
+pub use block::{Block, join_sectors};
+pub use entry::Entry;
 pub use geometry::{Geometry, GeometryRefused};
 pub use request::{Part, Places};
 pub use spot::Spot;

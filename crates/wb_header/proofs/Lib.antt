@@ -1,3 +1,5 @@
 pub mod Checkings
+pub mod DistinctBlocks
 pub mod Spellings
+pub mod Standings
 pub mod Writing

@@ -162,7 +162,7 @@ pub IsText-written : (room limit id : ℕ) (blocks : List TextBlock) (first seco
     → ((j : ℕ) → j < length blocks → HoldsPayload (get_or blocks j no_block).bits (get_or blocks j no_block).payload third j)
     → IsSameOutside 4096 (4096 * (1 + length blocks)) second third
     → sum_in last ≡ sum_of (blanked third) → IsSameOutside 8 12 third last
-    → IsSegment (record { id = id; blocks = blocks }) → All (λ byte. byte < 256) last
+    → IsSegment id blocks → All (λ byte. byte < 256) last
     → length blocks ≤ room → All (λ block. block.number < limit) blocks → IsText room limit last id blocks
 IsText-written room limit id blocks first second third last size front entries listed payloads filled summed sealed segment bounded few inside =
     let count = length blocks in

@@ -1,5 +1,6 @@
 pub mod Text
 pub mod Segments
+pub mod Standing
 pub mod Writing
 pub mod Refused
 pub mod Firsts

@@ -1,8 +1,8 @@
 //! A segment that takes no more writes.
-ghost use Rattle.std.specs.Prelude.{◌≡◌, ◌<◌, length, slice_index_or};
+ghost use Rattle.std.specs.Prelude.{◌≡◌, ◌<◌, length, slice_index_or, vec_capacity};
 ghost use Rattle.wb_geometry.specs.Block.{IsClean};
 ghost use Rattle.wb_header.specs.Text.{no_block};
-ghost use Rattle.wb_header.specs.Segments.{Segment, IsSegment, blocks_of};
+ghost use Rattle.wb_header.specs.Segments.{IsSegment, blocks_of};
 
 use std::marker::Model;
 use wb_geometry::Block;
@@ -34,21 +34,23 @@ pub struct Sealed {
 }
 
 impl Model for Sealed {
+    ghost use Rattle.std.specs.Prelude.{vec_capacity};
     ghost use Rattle.wb_header.specs.Segments.{Segment, IsSegment, blocks_of};
 
     ghost Value = { Segment };
 
-    ghost view = { λ s. record { id = s.id; blocks = blocks_of s.blocks.items } };
+    ghost view = { λ s. record { id = s.id; blocks = blocks_of s.blocks.items; room = vec_capacity s.blocks } };
 
-    ghost invariant = { λ s. IsSegment (record { id = s.id; blocks = blocks_of s.blocks.items }) };
+    ghost invariant = { λ s. IsSegment s.id (blocks_of s.blocks.items) };
 }
 
 impl Sealed {
     /// The segment of this id with these blocks.
     pub fn of(id: u64, blocks: Vec<Cached>) -> Sealed
-        requires { IsSegment (record { id = id; blocks = blocks_of blocks.items }) }
+        requires { IsSegment id (blocks_of blocks.items) }
         ensures id { result.id ≡ id }
         ensures blocks { result.blocks ≡ blocks_of blocks.items }
+        ensures room { result.room ≡ vec_capacity blocks }
     {
         Sealed { id, blocks }
     }
@@ -63,7 +65,7 @@ impl Sealed {
     /// The number of blocks.
     pub fn len(&self) -> usize
         ensures count { result ≡ length self.now.blocks }
-        ensures segment { IsSegment self.now }
+        ensures segment { IsSegment self.now.id self.now.blocks }
     {
         self.blocks.len()
     }
@@ -93,7 +95,8 @@ impl Sealed {
 
     /// The blocks, given back with the room of their vector.
     pub fn into_blocks(self) -> Vec<Cached>
-        ensures { blocks_of result.items ≡ self.blocks }
+        ensures blocks { blocks_of result.items ≡ self.blocks }
+        ensures room { vec_capacity result ≡ self.room }
     {
         let Sealed { blocks, .. } = self;
         blocks

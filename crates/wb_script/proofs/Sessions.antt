@@ -16,7 +16,7 @@ use Rattle.wb_geometry.proofs.Histories.{entries_of-one}
 use Rattle.wb_geometry.specs.declared.which.Which.{Which}
 use Rattle.wb_script.specs.Patterns.{repeated}
 use Rattle.wb_script.specs.Content.{ScriptContent}
-use Rattle.wb_script.specs.Transcripts.{asked, printed_line, printed, all_printed, IsHistory, placed, Seen, nothing_seen, seen_after, Answers, AnswersAll, IsLegal, AreLegal, is_failure, failures, all_failures}
+use Rattle.wb_script.specs.Transcripts.{asked, printed_line, printed, all_printed, IsHistory, placed, Seen, nothing_seen, seen_after, seen_after_all, Answers, AnswersAll, IsLegal, AreLegal, is_failure, failures, all_failures}
 use Rattle.wb_script.specs.declared.request.Request.{Request}
 use Rattle.wb_script.specs.declared.request.Request.TheVariants.{Write, Read}
 use Rattle.wb_script.specs.declared.transcript.Line.{Line}
@@ -67,12 +67,6 @@ AnswersAll-longer base history more client seen (request ∷ requests) (line ∷
     (Answers-longer base history more client seen request line answers.0, AnswersAll-longer base history more client (seen_after seen request line) requests lines answers.1)
 
 -- ---- one more line
-
--- what a client has seen after all these lines
-abbrev pub seen_after_all : Seen → List Request → List Line → Seen
-seen_after_all seen (request ∷ requests) (line ∷ lines) = seen_after_all (seen_after seen request line) requests lines
-seen_after_all seen [] lines = seen
-seen_after_all seen (request ∷ requests) [] = seen
 
 -- there is a line for each request
 pub length-answers : (base : Option Image) (history : List HistoryEntry) (client : ℕ) (seen : Seen) (requests : List Request) (lines : List Line) → AnswersAll base history client seen requests lines → length lines ≡ length requests

@@ -64,6 +64,12 @@ seen_after seen request (Wrote places stop) = record { number = fold (λ _ place
 seen_after seen request (Got point shown) = record { number = point }
 seen_after seen request (Failed device) = seen
 
+-- what a client has seen after all these lines
+abbrev pub seen_after_all : Seen → List Request → List Line → Seen
+seen_after_all seen (request ∷ requests) (line ∷ lines) = seen_after_all (seen_after seen request line) requests lines
+seen_after_all seen [] lines = seen
+seen_after_all seen (request ∷ requests) [] = seen
+
 -- the places of a line rise from that number on
 abbrev pub Rises : ℕ → List ℕ → Type 0
 Rises number [] = Unit {0}

@@ -1,9 +1,8 @@
 -- Lemmas on what a run answers for.
-use Rattle.std.proofs.Common.{◌≡◌, ◌≢◌, ◌⊎◌, ◌<◌, ◌≤◌, List, [], ℕ, ap, sym, subst, ◌∙◌, arith, inl, inr, refl, Option, Some, None, IfSome, Result, Ok, Err}
-use Rattle.wb_geometry.specs.Device.{State, IsDevice, OnlyRead, CountsFaultsWhere}
+use Rattle.std.proofs.Common.{◌≡◌, ◌≢◌, ◌⊎◌, List, [], length, ℕ, ap, sym, subst, ◌∙◌, arith, inl, inr, refl, Option, Some, None, IfSome, Result, Ok, Err}
+use Rattle.wb_geometry.specs.Device.{State, OnlyRead, CountsFaultsWhere}
 use Rattle.wb_geometry.proofs.Moments.{uncalled}
 use Rattle.wb_super.specs.Found.{IsSuper}
-use Rattle.wb_super.specs.Found as super
 use Rattle.wb_super.specs.declared.reading.Super.{Super}
 use Rattle.wb_super.specs.declared.reading.SuperRefused.{SuperRefused}
 use Rattle.wb_super.specs.declared.reading.SuperRefused.TheVariants as refused
@@ -11,12 +10,11 @@ use Rattle.wb_script.specs.Grammar.{IsTheScript, IsTheRefusal}
 use Rattle.wb_script.specs.Content.{ScriptContent}
 use Rattle.wb_script.specs.declared.refusal.Cause.{Cause}
 use Rattle.wb_script.specs.declared.transcript.Line.{Line}
-use Rattle.wb_tool.specs.Run.{Run, run_of, Lent, HasNotFailed, IsUntouched, NoSession, lent, Refuses, Spells, Took, EndsTelling, script_bytes}
+use Rattle.wb_tool.specs.Run.{Run, run_of, Lent, IsUntouched, NoSession, lent, EndsTelling, script_bytes}
+use Rattle.std.specs.Io.KnownBytes.{IsAtEnd}
 use Rattle.wb_tool.specs.Reads.{IsRead}
-use Rattle.wb_geometry.specs.declared.which.Which.TheVariants.{Backing}
-use Rattle.wb_tool.specs.Texts.{refused_line, small_line, super_line, super_status, inspected_line}
-use Rattle.wb_tool.specs.Opening.{EndsByLog, EndsByBacking}
-use Rattle.wb_tool.specs.Serve.{Serves, IsOpened, IsUnserved, ServeAccount}
+use Rattle.wb_tool.specs.Texts.{super_status, inspected_line}
+use Rattle.wb_tool.specs.Serve.{ServeAccount}
 use Rattle.wb_tool.specs.Inspect.{InspectEnds, InspectAccount}
 use Rattle.wb_tool.specs.Slot.{SlotAccount}
 use Rattle.wb_tool.specs.Format.{FormatAccount}
@@ -38,48 +36,19 @@ pub refuses : (before after : Option (List ℕ)) (sectors : ℕ) (bytes text : L
     → IsTheRefusal sectors text line cause → IfSome before (λ input. IsTheRefusal sectors (script_bytes input) line cause)
 refuses before after sectors bytes text line cause read same why = told_refusal sectors line cause bytes text before read.bytes_are same why
 
--- the script is refused
-pub refused_serves : (sectors : ℕ) (run : Run) → NoSession run → run.status ≡ 3 → HasNotFailed run.source → (line : ℕ) (cause : Cause) → Refuses sectors run.source line cause
-    → Took run.sink (refused_line line cause)
-    → (bytes : List ℕ) → IsRead run.source.before run.source.after bytes → Serves sectors run
-refused_serves sectors run none is kept line cause why told bytes read = record {
-  causes = record {
-    known = inr (inr (inl is));
-    source = λ s. absurd (omega arith);
-    script = λ _. (kept, (line, cause, why));
-    backing = λ s. absurd (omega arith);
-    sink = λ s. absurd (omega arith);
-    done = λ s. absurd (omega arith);
-    kept = λ _ _. none.backing.faults;
-  };
-  session = λ s. absurd (omega arith);
-  refusal = λ _. record { no_session = none; source = λ s. absurd (omega arith); read = λ _. (bytes, read.taken, read.few); script = λ _. (line, cause, why, told) };
-}
+told_script : (sectors : ℕ) (script : ScriptContent) (bytes text : List ℕ) (before : Option (List ℕ)) → IfSome before (λ input. bytes ≡ script_bytes input) → text ≡ bytes
+    → IsTheScript sectors text script → IfSome before (λ input. IsTheScript sectors (script_bytes input) script)
+told_script sectors script bytes text None is same good = tt
+told_script sectors script bytes text (Some input) is same good = subst (λ (t : List ℕ). IsTheScript sectors t script) (same ∙ is) good
 
--- what holds of a run that isn't lent the log device holds of one that is
-pub serves_beside : (sectors : ℕ) (source sink : Lent) (lent_before lent_after log_before log_after backing_before backing_after : State) (status : ℕ) (transcripts : List (List Line)) (places : ℕ)
-    → Serves sectors (run_of source sink lent_before lent_after backing_before backing_after status transcripts places)
-    → Serves sectors (run_of source sink log_before log_after backing_before backing_after status transcripts places)
-serves_beside sectors source sink lent_before lent_after log_before log_after backing_before backing_after status transcripts places serves =
-    let causes = serves.causes in record {
-      causes = record {
-        known = causes.known;
-        source = causes.source;
-        script = causes.script;
-        backing = causes.backing;
-        sink = causes.sink;
-        done = causes.done;
-        kept = causes.kept;
-      };
-      session = λ began. let session = serves.session began in
-          record { script = session.script; spelled = session.spelled; at_end = session.at_end; served = session.served };
-      refusal = λ refused. let refusal = serves.refusal refused in let none = refusal.no_session in record {
-        no_session = record { transcripts = none.transcripts; places = none.places; backing = none.backing };
-        source = refusal.source;
-        read = refusal.read;
-        script = refusal.script;
-      };
-    }
+pub spells : (before after : Option (List ℕ)) (sectors : ℕ) (bytes text : List ℕ) (script : ScriptContent) → IsRead before after bytes → text ≡ bytes
+    → IsTheScript sectors text script → IfSome before (λ input. IsTheScript sectors (script_bytes input) script)
+spells before after sectors bytes text script read same good = told_script sectors script bytes text before read.bytes_are same good
+
+-- nothing is left behind a script
+pub script_at_end : (before after : Option (List ℕ)) (sectors : ℕ) (bytes text : List ℕ) (script : ScriptContent) → IsRead before after bytes → text ≡ bytes
+    → IsTheScript sectors text script → IsAtEnd after
+script_at_end before after sectors bytes text script read same good = read.at_end (let short = good.is.short in omega (arith, ap length same, short))
 
 -- where the backing device isn't called, no session begins
 pub no_session : (source sink : Lent) (log_before log_after backing : State) (status : ℕ) (transcripts : List (List Line)) (places : ℕ)
@@ -131,55 +100,14 @@ faults_by read cause status before after P is counts known six =
     faults_at cause read status before after is counts (either_status status (super_status cause) P known) six
 
 -- and of one that is good
+pub read_kept : (read : Result Super SuperRefused) (found : Super) (before after : ℕ) → read ≡ Ok found → CountsFaultsWhere (read ≡ Err refused.Fault) before after → after ≡ before
+read_kept read found before after is counts = counts.kept (λ e. let no : Ok found ≡ Err refused.Fault = sym is ∙ e in cc)
+
 pub faults_ok : (read : Result Super SuperRefused) (found : Super) (status before after : ℕ) → read ≡ Ok found
     → CountsFaultsWhere (read ≡ Err refused.Fault) before after → status ≢ 6 → CountsFaultsWhere (status ≡ 6) before after
-faults_ok read found status before after is counts other = faults_kept status before after other (counts.kept (λ e. let no : Ok found ≡ Err refused.Fault = sym is ∙ e in cc))
-
--- the superblock is refused
-ends_by_log : (sink : Lent) (log : State) (status : ℕ) (cause : SuperRefused) → super.Refuses log cause
-    → (status ≡ 1) ⊎ ((status ≡ super_status cause) × Took sink (super_line cause)) → (status ≡ 1) ⊎ EndsByLog sink log status
-ends_by_log sink log status cause why (inl one) = inl one
-ends_by_log sink log status cause why (inr told) = inr (record { cause = cause; why = why; ended = told.0; told = told.1 })
-
-pub log_unserved : (run : Run) (cause : SuperRefused) → NoSession run → IsUntouched run.source → super.Refuses run.log_before cause
-    → (run.status ≡ 1) ⊎ ((run.status ≡ super_status cause) × Took run.sink (super_line cause)) → (run.status ≡ 1) ⊎ IsUnserved run ⊎ IsOpened run
-log_unserved run cause none unread why (inl one) = inl one
-log_unserved run cause none unread why (inr told) =
-    inr (inl (record { no_session = none; unread = unread; ends = inl (record { cause = cause; why = why; ended = told.0; told = told.1 }) }))
-
--- the backing device is too small
-pub backing_unserved : (run : Run) (found : Super) → NoSession run → IsUntouched run.source → IsSuper run.log_before found
-    → (run.status ≡ 1) ⊎ EndsByBacking found.geometry.backing_sectors run.backing_before.sectors run.sink run.status → (run.status ≡ 1) ⊎ IsUnserved run ⊎ IsOpened run
-backing_unserved run found none unread super (inl one) = inl one
-backing_unserved run found none unread super (inr ends) =
-    inr (inl (record { no_session = none; unread = unread; ends = inr (found, super, ends) }))
-
-pub ends_by_backing : (needs has found : ℕ) (sink : Lent) (status code : ℕ) → found ≡ has → status ≡ code → found < needs
-    → (code ≡ 1) ⊎ ((code ≡ 9) × Took sink (small_line Backing found needs)) → (status ≡ 1) ⊎ EndsByBacking needs has sink status
-ends_by_backing needs has found sink status code same ended few (inl one) = inl (ended ∙ one)
-ends_by_backing needs has found sink status code same ended few (inr told) =
-    inr (record { few = omega (arith, same, few); ended = ended ∙ told.0; told = subst (λ (n : ℕ). Took sink (small_line Backing n needs)) same told.1 })
-
-pub backing_not_6 : (needs has : ℕ) (sink : Lent) (status : ℕ) → (status ≡ 1) ⊎ EndsByBacking needs has sink status → status ≢ 6
-backing_not_6 needs has sink status (inl one) = λ six. omega arith
-backing_not_6 needs has sink status (inr ends) = λ six. let nine = ends.ended in omega arith
-
--- no status of a script that is served is that of a log device that failed
-pub served_not_6 : (sectors : ℕ) (run : Run) → Serves sectors run → run.status ≢ 6
-served_not_6 sectors run serves six = let known = serves.causes.known in omega (arith, known)
+faults_ok read found status before after is counts other = faults_kept status before after other (read_kept read found before after is counts)
 
 -- inspecting
-
-pub log_inspected : (sink : Lent) (before after : State) (status : ℕ) (cause : SuperRefused) → OnlyRead before after → CountsFaultsWhere (status ≡ 6) before.faults after.faults
-    → super.Refuses before cause → (status ≡ 1) ⊎ ((status ≡ super_status cause) × Took sink (super_line cause)) → InspectEnds sink before after status
-log_inspected sink before after status cause read faults why told = record {
-  log = read;
-  faults = faults;
-  ends = elim (ends_by_log sink before status cause why told) [
-    | inl one ↦ inl one
-    | inr ends ↦ inr (inl ends)
-  ];
-}
 
 pub telling_not_1 : (sink : Lent) (status : ℕ) (text : List ℕ) → EndsTelling sink status text → status ≢ 1
 telling_not_1 sink status text (inl done) one = absurd (omega (arith, done.0))

@@ -1,33 +1,41 @@
 -- When a run succeeds.
-use Rattle.std.proofs.Common.{◌≡◌, ◌≢◌, ◌⊎◌, ◌<◌, ◌≤◌, ◌+◌, ◌*◌, ◌^◌, List, [], ℕ, ap, sym, subst, ◌∙◌, arith, inl, inr, refl, Option, Some, None, IfSome}
+use Rattle.std.proofs.Common.{◌≡◌, ◌⊎◌, ◌<◌, ◌≤◌, ◌-◌, ◌*◌, ◌^◌, List, ℕ, Bool, true, ap, sym, subst, ◌∙◌, arith, inl, inr, Option, Some, IfSome}
+use Rattle.std.proofs.Math.Nat.{mul-le-mul_right}
 use Rattle.wb_geometry.specs.Image.{Image}
 use Rattle.wb_geometry.specs.Layout.{log_sectors}
+use Rattle.wb_geometry.specs.Layout as layout
+use Rattle.wb_geometry.proofs.Geometries.{places_few}
+use Rattle.wb_tool.proofs.Few.{few_places}
 use Rattle.wb_geometry.specs.Device.{State, IsDevice}
 use Rattle.wb_geometry.specs.declared.geometry.Geometry.{Geometry}
-use Rattle.wb_super.specs.Superblock.{SuperText}
-use Rattle.wb_super.specs.Found.{IsSuper, Refuses}
+use Rattle.wb_super.specs.Superblock.{SuperText, record_of}
+use Rattle.wb_super.specs.Found.{IsSuper, most_record}
 use Rattle.wb_super.specs.declared.reading.Super.{Super}
-use Rattle.wb_super.specs.declared.reading.SuperRefused.{SuperRefused}
-use Rattle.wb_super.specs.declared.reading.SuperRefused.TheVariants as refused
 use Rattle.wb_super.proofs.Superblocks.{not_refused, one_geometry}
 use Rattle.wb_script.specs.Content.{ScriptContent}
-use Rattle.wb_script.specs.Grammar.{IsScript, IsTheRefusal}
+use Rattle.wb_script.specs.Grammar.{IsScript, IsTheScript, IsTheRefusal}
 use Rattle.wb_script.specs.declared.refusal.Cause.{Cause}
 use Rattle.wb_tool.specs.declared.command.Numbers.{Numbers}
 use Rattle.wb_tool.proofs.Formatted.{asked_one}
 use Rattle.wb_tool.specs.Run.{Lent, Run, HasFailed, EndsTelling, script_bytes}
 use Rattle.wb_tool.specs.Run as run
 use Rattle.wb_tool.specs.Texts.{super_status}
-use Rattle.wb_tool.specs.Opening.{EndsByLog, EndsByBacking}
-use Rattle.wb_tool.specs.Serve.{Serves, IsOpened, IsUnserved, ServeAccount}
+use Rattle.wb_tool.specs.Opening.{EndsByLog, EndsByIds, EndsByBacking}
+use Rattle.wb_tool.specs.Serve as serve
+use Rattle.wb_tool.specs.Serve.{HasIds, ServeAccount}
+use Rattle.wb_tool.specs.Served.{Served}
+use Rattle.wb_tool.specs.Stages.{EndsReading}
+use Rattle.wb_script.specs.Output.{session_text}
+use Rattle.wb_script.specs.declared.transcript.Line.{Line}
+use Rattle.wb_serve.specs.Session.{IsSession}
 use Rattle.wb_tool.specs.Inspect.{InspectAccount}
 use Rattle.wb_tool.specs.Slot.{SlotAccount}
-use Rattle.wb_tool.specs.Format.{FormatAccount, FormatEnds, Asks, EndsAsked}
-use Rattle.wb_tool.specs.Account.{IsAccounted, IsComplete, TellsFormatted, IsScripted, NoLogFault, NoFault, Succeeds}
+use Rattle.wb_tool.specs.Format.{FormatAccount, Asks}
+use Rattle.wb_tool.specs.Account.{IsAccounted, IsComplete, TellsFormatted, LeavesIds, IsScripted, NoLogFault, NoFault, Succeeds}
 
 -- a formatted log is refused only for a fault, which ends the run with status 6
 log_fault : (sink : Lent) (s : State) (status : ℕ) (image : Image) (g : Geometry) → IsDevice s → s.content ≡ Some image → SuperText image g 1
-    → Rattle.wb_super.specs.Superblock.record_of image ≤ Rattle.wb_super.specs.Found.most_record → EndsByLog sink s status → status ≡ 6
+    → record_of image ≤ most_record → EndsByLog sink s status → status ≡ 6
 log_fault sink s status image g device told text bounded ends =
     ends.ended ∙ ap super_status (not_refused s image g device told text bounded ends.cause ends.why)
 
@@ -43,51 +51,113 @@ not_script source sectors line cause input script told good why =
     let here : IsTheRefusal sectors (script_bytes input) line cause = subst (λ (t : Option (List ℕ)). IfSome t (λ bytes. IsTheRefusal sectors (script_bytes bytes) line cause)) told why in
     here.none script good
 
--- of the statuses of a script that is served, all but two are ruled out
-served_well : (sectors : ℕ) (r : Run) → Serves sectors r → NoFault r → (input : List ℕ) (script : ScriptContent) → r.source.before ≡ Some input
-    → IsScript sectors (script_bytes input) script → Succeeds r
-served_well sectors r serves fine input script told good =
-    let causes = serves.causes in
-    elim causes.known [
-      | inl zero ↦ inl zero
-      | inr rest ↦ elim rest [
-        | inl one ↦ inr one
-        | inr rest ↦ elim rest [
-          | inl three ↦ absurd (let why = (causes.script three).1 in not_script r.source sectors why.0 why.1 input script told good why.2)
-          | inr rest ↦ elim rest [
-            | inl four ↦ absurd (fine.source (causes.source four))
-            | inr rest ↦ elim rest [
-              | inl five ↦ absurd (fine.fine.sink (causes.sink five).1)
-              | inr seven ↦ absurd (fine.backing (causes.backing seven).1)
-            ]
-          ]
-        ]
-      ]
-    ]
-
-serve_complete : (r : Run) → IsDevice r.log_before → ServeAccount r → NoFault r → (g : Geometry) → TellsFormatted r g
-    → g.backing_sectors ≤ r.backing_before.sectors → IsScripted r g → Succeeds r
-serve_complete r device account fine g formatted room scripted =
-    let six : r.status ≡ 6 → Succeeds r = λ is. absurd (fine.fine.log (account.log_faults.failed is)) in
-    elim account.ends [
-      | inl one ↦ inr one
-      | inr rest ↦ elim rest [
-        | inl unserved ↦ elim unserved.ends [
-          | inl by_log ↦ six (log_fault r.sink r.log_before r.status formatted.image g device formatted.told formatted.text formatted.bounded by_log)
-          | inr small ↦ absurd (
-              let same = same_geometry r.log_before formatted.image g small.0 formatted.told formatted.text small.1 in
-              omega (arith, small.2.few, ap (λ (h : Geometry). h.backing_sectors) same, room))
-        ]
-        | inr served ↦
-            let same = same_geometry r.log_before formatted.image g served.found formatted.told formatted.text served.super in
-            served_well g.backing_sectors r (subst (λ (h : Geometry). Serves h.backing_sectors r) same served.serves) fine
-            scripted.input scripted.script scripted.told scripted.good
-      ]
-    ]
-
 told_well : (r : Run) (text : List ℕ) → NoLogFault r → EndsTelling r.sink r.status text → Succeeds r
 told_well r text fine (inl done) = inl done.0
 told_well r text fine (inr cut) = absurd (fine.sink cut.1)
+
+-- what is told of a log that is formatted, with a record that leaves ids
+record IsReady (s : State) (g : Geometry) (image : Image) : Type 0 where
+  device : IsDevice s
+  told : s.content ≡ Some image
+  text : SuperText image g 1
+  bounded : record_of image ≤ most_record
+  ids : LeavesIds g image
+
+-- its record is that of the superblock
+same_record : (s : State) (g : Geometry) (image : Image) (found : Super) → IsReady s g image → IsSuper s found → found.recorded ≡ record_of image
+same_record s g image found ready super = sym (subst (λ (content : Option Image). IfSome content (λ x. record_of x ≡ found.recorded)) ready.told super.number)
+
+-- its cache is opened, but where the log fails
+opens : (sink : Lent) (s : State) (g : Geometry) (image : Image) (sectors status : ℕ) → IsReady s g image → g.backing_sectors ≤ sectors
+    → EndsByLog sink s status ⊎ ((found : Super) × IsSuper s found × EndsByIds found sink status)
+    ⊎ ((found : Super) × IsSuper s found × HasIds found × EndsByBacking found.geometry.backing_sectors sectors sink status)
+    → status ≡ 6
+opens sink s g image sectors status ready room (inl refused) = log_fault sink s status image g ready.device ready.told ready.text ready.bounded refused
+opens sink s g image sectors status ready room (inr (inl (found, super, spent))) = absurd (
+    let same = ap (λ (h : Geometry). h.slots) (same_geometry s image g found ready.told ready.text super) in
+    omega (arith, spent.spent, same_record s g image found ready super, same, ready.ids))
+opens sink s g image sectors status ready room (inr (inr (found, super, ids, small))) = absurd (
+    let same = ap (λ (h : Geometry). h.backing_sectors) (same_geometry s image g found ready.told ready.text super) in
+    omega (arith, small.few, same, room))
+
+-- a session takes fewer places than are left
+not_spent : (s : State) (g : Geometry) (image : Image) (input : List ℕ) (script : ScriptContent) (after backing_before backing_after : State) (transcripts : List (List Line)) (places : ℕ) (found : Super) (ids log_failed backing_failed : Bool)
+    → IsReady s g image → IsScript g.backing_sectors (script_bytes input) script
+    → IsSession found script s after backing_before backing_after transcripts places ids log_failed backing_failed → ids ≡ true → ⊥
+not_spent s g image input script after backing_before backing_after transcripts places found ids log_failed backing_failed ready good session spent =
+    let few = few_places g.backing_sectors (script_bytes input) script transcripts places session.history good session.printed in
+    let all = (session.ids_spent (session.ids_told spent)).1 in
+    let each = (places_few found.geometry).0 in
+    let left : 2 ^ 26 ≤ 2 ^ 48 - found.recorded = omega (arith, same_record s g image found ready session.super, ready.ids) in
+    let more : 1 * (2 ^ 48 - found.recorded) ≤ layout.places found.geometry * (2 ^ 48 - found.recorded) = mul-le-mul_right (2 ^ 48 - found.recorded) each in
+    omega (arith, few, all, left, more)
+
+-- the status isn't that of a log that failed
+not_at_6 : (r : Run) → ServeAccount r → NoFault r → r.status ≡ 6 → ⊥
+not_at_6 r account fine six = fine.fine.log ((account.log_faults (λ one. omega arith)).failed six)
+
+-- a session succeeds, where nothing failed
+session_well : (r : Run) (g : Geometry) (image : Image) (input : List ℕ) (script : ScriptContent) → NoFault r → ServeAccount r → IsReady r.log_before g image
+    → IsScript g.backing_sectors (script_bytes input) script
+    → Served script r.sink r.log_before r.log_after r.backing_before r.backing_after r.status r.transcripts r.places → Succeeds r
+session_well r g image input script fine account ready good served =
+    elim served.ends [
+      | inl failed ↦ absurd (not_at_6 r account fine failed.1)
+      | inr rest ↦ elim rest [
+        | inl failed ↦ absurd (fine.backing ((account.backing_faults (λ one. let seven = failed.2 in omega arith) (λ six. let seven = failed.2 in omega arith)).failed failed.2))
+        | inr rest ↦ elim rest [
+          | inl spent ↦ absurd (not_spent r.log_before g image input script r.log_after r.backing_before r.backing_after r.transcripts r.places served.found served.ids served.log_failed served.backing_failed
+              ready good served.session spent.1)
+          | inr told ↦ told_well r (session_text script r.transcripts r.places) fine.fine told.2
+        ]
+      ]
+    ]
+
+-- the script that the source spells is the good one
+the_good : (source : Lent) (sectors : ℕ) (input : List ℕ) (script : ScriptContent) → source.before ≡ Some input → run.Spells sectors source script → IsScript sectors (script_bytes input) script
+the_good source sectors input script told spelled =
+    let here : IsTheScript sectors (script_bytes input) script = subst (λ (t : Option (List ℕ)). IfSome t (λ bytes. IsTheScript sectors (script_bytes bytes) script)) told spelled in here.is
+
+-- the log isn't smaller than the script was parsed for
+not_changed : (s : State) (g : Geometry) (image : Image) (bytes : List ℕ) (script : ScriptContent) (found : Super) → IsReady s g image → IsScript g.backing_sectors bytes script
+    → IsSuper s found → found.geometry.backing_sectors < script.sectors → ⊥
+not_changed s g image bytes script found ready good super fewer =
+    let same = ap (λ (h : Geometry). h.backing_sectors) (same_geometry s image g found ready.told ready.text super) in
+    omega (arith, same, good.sectors_are, fewer)
+
+scripted_well : (r : Run) (g : Geometry) (image : Image) (input : List ℕ) → NoFault r → ServeAccount r → IsReady r.log_before g image → g.backing_sectors ≤ r.backing_before.sectors
+    → r.source.before ≡ Some input → serve.IsScripted g.backing_sectors r → Succeeds r
+scripted_well r g image input fine account ready room told scripted =
+    let good : IsScript g.backing_sectors (script_bytes input) scripted.script = the_good r.source g.backing_sectors input scripted.script told scripted.spelled in
+    elim scripted.ends [
+      | inl none ↦ elim none.1 [
+        | inl unopened ↦ absurd (not_at_6 r account fine (opens r.sink r.log_before g image r.backing_before.sectors r.status ready room unopened))
+        | inr change ↦ absurd (not_changed r.log_before g image (script_bytes input) scripted.script change.found ready good change.super change.fewer)
+      ]
+      | inr served ↦ session_well r g image input scripted.script fine account ready good served
+    ]
+
+read_well : (r : Run) (g : Geometry) (image : Image) (input : List ℕ) (script : ScriptContent) → NoFault r → ServeAccount r → IsReady r.log_before g image → g.backing_sectors ≤ r.backing_before.sectors
+    → r.source.before ≡ Some input → IsScript g.backing_sectors (script_bytes input) script → EndsReading g.backing_sectors r → Succeeds r
+read_well r g image input script fine account ready room told good (inl (none, inl failed)) = absurd (fine.source failed.failed)
+read_well r g image input script fine account ready room told good (inl (none, inr refused)) =
+    absurd (not_script r.source g.backing_sectors refused.line refused.cause input script told good refused.refused)
+read_well r g image input script fine account ready room told good (inr scripted) = scripted_well r g image input fine account ready room told scripted
+
+serve_complete : (r : Run) → IsDevice r.log_before → ServeAccount r → NoFault r → (g : Geometry) → (formatted : TellsFormatted r g) → LeavesIds g formatted.image
+    → g.backing_sectors ≤ r.backing_before.sectors → IsScripted r g → Succeeds r
+serve_complete r device account fine g formatted ids room scripted =
+    let ready : IsReady r.log_before g formatted.image = record { device = device; told = formatted.told; text = formatted.text; bounded = formatted.bounded; ids = ids } in
+    elim account.ends [
+      | inl one ↦ inr one
+      | inr rest ↦ elim rest [
+        | inl unserved ↦ absurd (not_at_6 r account fine (opens r.sink r.log_before g formatted.image r.backing_before.sectors r.status ready room unserved.ends))
+        | inr opened ↦
+            let same = same_geometry r.log_before formatted.image g opened.found formatted.told formatted.text opened.super in
+            read_well r g formatted.image scripted.input scripted.script fine account ready room scripted.told scripted.good
+            (subst (λ (h : Geometry). EndsReading h.backing_sectors r) same opened.ends)
+      ]
+    ]
 
 inspect_complete : (r : Run) → IsDevice r.log_before → InspectAccount r → NoLogFault r → (g : Geometry) → TellsFormatted r g → Succeeds r
 inspect_complete r device account fine g formatted =

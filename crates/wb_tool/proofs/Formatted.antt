@@ -1,5 +1,5 @@
 -- How `format` ends.
-use Rattle.std.proofs.Common.{◌≡◌, ◌≢◌, ◌⊎◌, ◌<◌, ◌≤◌, ℕ, ap, sym, subst, ◌∙◌, arith, inl, inr, refl, Some, Result, Ok, Err, OnOk, OnErr}
+use Rattle.std.proofs.Common.{◌≡◌, ◌≢◌, ◌⊎◌, ◌<◌, ◌≤◌, ℕ, sym, subst, ◌∙◌, arith, inl, inr, refl, Some, Result, Ok, Err}
 use Rattle.wb_geometry.specs.Image.{Image}
 use Rattle.wb_geometry.specs.Layout.{log_sectors}
 use Rattle.wb_geometry.specs.Device.{State, IsDevice, IsUncalled, CountsFaultsWhere, NothingPending, ContentPasses, Passes, LeavesOnly}
@@ -14,7 +14,7 @@ use Rattle.wb_tool.specs.Run.{Lent, Took, EndsTelling}
 use Rattle.wb_geometry.specs.declared.which.Which.TheVariants.{Log}
 use Rattle.wb_tool.specs.Texts.{formatted_line, small_line, failed_line}
 use Rattle.wb_tool.specs.Opening.{EndsByBacking}
-use Rattle.wb_tool.specs.Format.{Asks, EndsBySmallLog, EndsByFault, EndsFormatted, EndsAsked, FormatEnds}
+use Rattle.wb_tool.specs.Format.{Asks, EndsAsked, FormatEnds}
 use Rattle.wb_tool.proofs.Accounts.{faults_kept, telling_not_1, telling_not_6}
 
 -- what is asked for is one geometry

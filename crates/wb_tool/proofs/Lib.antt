@@ -1,7 +1,9 @@
-pub mod Answering
-pub mod Entries
 pub mod Runs
+pub mod Moved
 pub mod Servings
+pub mod Sessions
+pub mod Unserved
+pub mod Few
 pub mod Words
 pub mod Shapes
 pub mod Accounts

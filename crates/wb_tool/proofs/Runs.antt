@@ -1,6 +1,5 @@
 -- Lemmas on reading a script and on what a run answers for.
-use Rattle.std.proofs.Common.{◌≡◌, ◌+◌, ◌<◌, ◌≤◌, List, [], ◌++◌, length, take, ℕ, refl, sym, ◌∙◌, ap, arith, append_assoc, append-nil, get_or, map, codes, Bool, true, false, nat_eq, IsTrue, ◌↔◌, ◌∷◌, Option, Some, None}
-use Rattle.std.specs.Cmp.Lexicographic.{pointwise, same_text, other_text}
+use Rattle.std.proofs.Common.{◌≡◌, ◌+◌, ◌<◌, ◌≤◌, List, [], ◌++◌, length, take, ℕ, refl, sym, ◌∙◌, ap, arith, append_assoc, append-nil, Option, Some, None}
 use Rattle.std.proofs.Math.Seq.{take-append_seam, take_all}
 use Rattle.std.specs.Io.KnownBytes.{Consumes, IsAtEnd}
 use Rattle.wb_script.specs.Grammar.{most_bytes}

@@ -1,5 +1,5 @@
 -- The shape of a line, whatever its pieces are.
-use Rattle.std.proofs.Common.{◌≡◌, ◌++◌, List, [], ◌∷◌, ℕ, refl, append_assoc, codes}
+use Rattle.std.proofs.Common.{◌≡◌, ◌++◌, List, ℕ, refl, append_assoc, codes}
 use Rattle.wb_script.specs.Output.{newline}
 
 pub inspected_shape : (version geometry recorded : List ℕ)

@@ -5,7 +5,7 @@ use Rattle.wb_geometry.specs.Image.{Image, bytes_at}
 use Rattle.wb_geometry.specs.Layout.{slot_at, slot_sectors, slot_start}
 use Rattle.wb_geometry.specs.Device.{State, OnlyRead, CountsFaultsWhere, HoldsContent}
 use Rattle.wb_geometry.specs.declared.geometry.Geometry.{Geometry}
-use Rattle.wb_header.specs.Text.{TextBlock, IsText, id_in, length_in, blocks_in}
+use Rattle.wb_header.specs.Text.{IsText, id_in, length_in, blocks_in}
 use Rattle.wb_header.specs.Refused as header
 use Rattle.wb_header.specs.Refused.{front_of}
 use Rattle.wb_header.specs.declared.checking.Refused.{Refused}
@@ -17,7 +17,7 @@ use Rattle.wb_super.specs.declared.reading.SuperRefused.TheVariants as refused
 use Rattle.wb_tool.specs.Run.{Lent, Took}
 use Rattle.wb_tool.specs.Texts.{no_slot_line}
 use Rattle.wb_tool.specs.SlotTexts.{TellsSlot, slot_bytes, room, blocks, segment_line, entries_text, refused_slot_line}
-use Rattle.wb_tool.specs.Slot.{SlotEnds, EndsAtSlot, EndsByNoSlot, EndsBySlotFault, EndsToldSlot}
+use Rattle.wb_tool.specs.Slot.{SlotEnds, EndsAtSlot, EndsBySlotFault, EndsToldSlot}
 use Rattle.wb_tool.proofs.Accounts.{faults_ok}
 
 -- a slot has whole blocks, 2 to 128 of them
@@ -152,7 +152,3 @@ at_slot slot found sink before mid after status read first is counts super secon
     | inr at ↦ inr (inr at)
   ];
 }
-
--- the same end, by the status that is answered
-pub slot_ends : (slot : ℕ) (sink : Lent) (before after : State) (status code : ℕ) → status ≡ code → SlotEnds slot sink before after code → SlotEnds slot sink before after status
-slot_ends slot sink before after status code ended ends = subst (λ (s : ℕ). SlotEnds slot sink before after s) (sym ended) ends

@@ -1,5 +1,5 @@
 -- What a run answers for, by its words, and when it succeeds.
-use Rattle.std.specs.Prelude.{ℕ, ◌≡◌, ◌⊎◌, ◌<◌, ◌≤◌, List, Some}
+use Rattle.std.specs.Prelude.{ℕ, ◌≡◌, ◌⊎◌, ◌<◌, ◌≤◌, ◌+◌, ◌*◌, ◌^◌, List, Some}
 use Rattle.wb_geometry.specs.Image.{Image}
 use Rattle.wb_geometry.specs.Layout.{log_sectors}
 use Rattle.wb_geometry.specs.Device.{IsUncalled}
@@ -41,6 +41,10 @@ pub record TellsFormatted (run : Run) (g : Geometry) : Type 0 where
   pub text : SuperText image g 1
   pub bounded : record_of image ≤ most_record
 
+-- the record of this log leaves ids for each session of a script
+abbrev pub LeavesIds : Geometry → Image → Type 0
+LeavesIds g image = record_of image + 2 * g.slots + 2 ^ 26 ≤ 2 ^ 48
+
 -- the source tells a good script for this geometry
 pub record IsScripted (run : Run) (g : Geometry) : Type 0 where
   pub input : List ℕ
@@ -65,7 +69,7 @@ Succeeds run = (run.status ≡ 0) ⊎ (run.status ≡ 1)
 
 -- a run over good devices, with a good script where one is read, succeeds but for want of memory
 pub record IsComplete (words : List (List ℕ)) (run : Run) : Type 0 where
-  pub serve : IsServe words → NoFault run → (g : Geometry) → TellsFormatted run g
+  pub serve : IsServe words → NoFault run → (g : Geometry) → (formatted : TellsFormatted run g) → LeavesIds g formatted.image
       → g.backing_sectors ≤ run.backing_before.sectors → IsScripted run g → Succeeds run
   pub format : (numbers : Numbers) → IsFormat numbers words → NoLogFault run → 8 ≤ run.backing_before.sectors
       → (g : Geometry) → Asks numbers run.backing_before.sectors g → log_sectors g ≤ run.log_before.sectors → Succeeds run

@@ -1,12 +1,11 @@
 pub mod Run
 pub mod Commands
 pub mod Texts
-pub mod Plain
-pub mod Kept
 pub mod Reads
 pub mod Served
 pub mod Opening
 pub mod Serve
+pub mod Stages
 pub mod Format
 pub mod Inspect
 pub mod SlotTexts

@@ -1,9 +1,8 @@
 -- A run of the program, as it is seen from outside.
-use Rattle.std.specs.Prelude.{ℕ, ◌≡◌, ◌⊎◌, ◌*◌, ◌/◌, ◌^◌, ◌+◌, List, [], take, min, Option, IfSome}
+use Rattle.std.specs.Prelude.{ℕ, ◌≡◌, ◌⊎◌, ◌*◌, ◌/◌, ◌^◌, ◌+◌, List, [], take, min, Option, None, IfSome}
 use Rattle.std.specs.Io.KnownBytes.{Appends}
 use Rattle.wb_geometry.specs.Device.{State, Rose, IsUncalled}
 use Rattle.wb_device.specs.Streams.{AppendsFront}
-use Rattle.wb_device.specs.Silent.{silent_state}
 use Rattle.wb_script.specs.Content.{ScriptContent}
 use Rattle.wb_script.specs.Grammar.{most_bytes, IsTheScript, IsTheRefusal}
 use Rattle.wb_script.specs.declared.refusal.Cause.{Cause}
@@ -58,9 +57,9 @@ run_of source sink log_before log_after backing_before backing_after status tran
   places = places;
 }
 
--- the state of a log device that a function isn't lent
-abbrev pub no_log : State
-no_log = silent_state 0 0 0 0
+-- a source that a function isn't lent
+abbrev pub no_source : Lent
+no_source = lent None None 0 0
 
 abbrev pub LogHasFailed : Run → Type 0
 LogHasFailed run = Rose run.log_before.faults run.log_after.faults

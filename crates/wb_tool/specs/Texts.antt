@@ -28,6 +28,17 @@ refused_line line cause = codes "wblog: script line " ++ decimal line ++ codes "
 abbrev pub failed_line : Which → List ℕ
 failed_line device = codes "wblog: " ++ device_name device ++ codes " device failed" ++ newline
 
+-- no ids are left, at the opening or for a place
+abbrev pub spent_record_line : ℕ → List ℕ
+spent_record_line found = codes "wblog: ids spent, record " ++ decimal found ++ newline
+
+abbrev pub spent_line : ℕ → List ℕ
+spent_line place = codes "wblog: ids spent, place " ++ decimal place ++ newline
+
+-- the log has fewer backing sectors than the script was parsed for
+abbrev pub changed_line : (parsed found : ℕ) → List ℕ
+changed_line parsed found = codes "wblog: log image: changed " ++ decimal parsed ++ codes " " ++ decimal found ++ newline
+
 -- a checksum: eight hexadecimal digits, the highest first
 abbrev pub sum_text : ℕ → List ℕ
 sum_text sum = encode_lower (to_be_bytes w32 sum)

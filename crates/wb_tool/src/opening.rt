@@ -2,11 +2,11 @@
 ghost use Rattle.std.specs.Prelude.{◌≡◌, ◌⊎◌};
 ghost use Rattle.wb_geometry.specs.declared.which.Which.TheVariants.{Backing};
 ghost use Rattle.wb_tool.specs.Run.{lent, Took};
-ghost use Rattle.wb_tool.specs.Texts.{super_line, super_status, small_line};
+ghost use Rattle.wb_tool.specs.Texts.{super_line, super_status, small_line, spent_record_line, changed_line};
 ghost use Rattle.wb_super.specs.declared.reading.SuperRefused.TheVariants.{Fault};
 
 use crate::status;
-use crate::texts::{LOG_FAILED, small_text, super_text, tell};
+use crate::texts::{LOG_FAILED, changed_text, small_text, spent_record_text, super_text, tell};
 use std::alloc::Global;
 use wb_device::Sink;
 use wb_geometry::Which;
@@ -42,4 +42,28 @@ pub fn refuse_backing<K: Sink>(alloc: Global, sink: &mut K, has: u64, needs: u64
     };
     tell(sink, text.as_str());
     status::SMALL
+}
+
+/// Tells that the record of the log leaves no ids. Answers the status.
+pub fn refuse_ids<K: Sink>(alloc: Global, sink: &mut K, recorded: u64) -> u8
+    ensures { (result ≡ 1) ⊎ ((result ≡ 10)
+        × Took (lent (K.taken sink.old) (K.taken sink.new) (K.faults sink.old) (K.faults sink.new)) (spent_record_line recorded)) }
+{
+    let Ok(text) = spent_record_text(alloc, recorded) else {
+        return status::MEMORY;
+    };
+    tell(sink, text.as_str());
+    status::IDS
+}
+
+/// Tells that the log has other backing sectors than the script was parsed for. Answers the status.
+pub fn refuse_change<K: Sink>(alloc: Global, sink: &mut K, parsed: u64, found: u64) -> u8
+    ensures { (result ≡ 1) ⊎ ((result ≡ 8)
+        × Took (lent (K.taken sink.old) (K.taken sink.new) (K.faults sink.old) (K.faults sink.new)) (changed_line parsed found)) }
+{
+    let Ok(text) = changed_text(alloc, parsed, found) else {
+        return status::MEMORY;
+    };
+    tell(sink, text.as_str());
+    status::IMAGE
 }

@@ -26,25 +26,21 @@ pub struct Outcome<L: Device, B: Device> {
     pub backing: B,
 }
 
-/// What a run came to, beside the devices.
-#[derive(Drop)]
-pub struct Ended {
-    pub status: u8,
-    pub transcripts: Vec<Transcript>,
-    pub places: u64,
-}
-
-impl Ended {
+impl<L: Device, B: Device> Outcome<L, B> {
     /// The end of a run in which no session began.
-    pub fn without_session(alloc: Global, status: u8) -> Ended
+    pub fn without_session(alloc: Global, status: u8, log: L, backing: B) -> Outcome<L, B>
         ensures status { result.status ≡ status }
         ensures transcripts { result.transcripts.items ≡ [] }
         ensures places { result.places ≡ 0 }
+        ensures log { result.log ≡ log }
+        ensures backing { result.backing ≡ backing }
     {
-        Ended {
+        Outcome {
             status,
             transcripts: Vec::new(alloc),
             places: 0,
+            log,
+            backing,
         }
     }
 }
@@ -52,11 +48,12 @@ impl Ended {
 /// Does what the words behind the program's name ask, and answers how it ended (docs/SCRIPT.md has the words and the
 /// statuses). It returns for every source, sink and device.
 ///
-/// `serve LOG BACKING` reads the superblock of the log, and the script from the source, and serves it: the answers go to
-/// the sink, and at the end the backing device holds what the script wrote. `format LOG BACKING ORDER SLOTS RAM` makes an
-/// empty log for the whole blocks of the backing device, and `inspect LOG BACKING` tells the superblock and the record of
-/// one; with a number behind it, what is in that slot. Words of another form are refused. Where no session began, the backing device is as it was, and only `format`
-/// writes to the log. At status 1, want of memory, nothing is said of the output, nor for `serve` of the backing device.
+/// `serve LOG BACKING` reads the superblock of the log, and the script from the source, and serves it over a cache of both
+/// devices: the answers go to the sink, and at the end the backing device holds what the script wrote. `format LOG BACKING
+/// ORDER SLOTS RAM` makes an empty log for the whole blocks of the backing device, and `inspect LOG BACKING` tells the
+/// superblock and the record of one; with a number behind it, what is in that slot. Words of another form are refused.
+/// Where no session began, the backing device is as it was, and only `format` writes to the log. At status 1, want of
+/// memory, nothing is said of the output, nor for `serve` of the backing device.
 pub fn run_single<S: Source, K: Sink, L: Device, B: Device>(
     alloc: Global,
     words: &[String],
@@ -76,16 +73,7 @@ pub fn run_single<S: Source, K: Sink, L: Device, B: Device>(
         (L.state log) (L.state result.log) (B.state backing) (B.state result.backing)
         result.status result.transcripts.items result.places) }
 {
-    let mut log = log;
-    let mut backing = backing;
-    let ended = obey(alloc, words, source, sink, &mut log, &mut backing);
-    Outcome {
-        status: ended.status,
-        transcripts: ended.transcripts,
-        places: ended.places,
-        log,
-        backing,
-    }
+    obey(alloc, words, source, sink, log, backing)
 }
 
 /// Does what the words ask.
@@ -94,32 +82,33 @@ fn obey<S: Source, K: Sink, L: Device, B: Device>(
     words: &[String],
     source: &mut S,
     sink: &mut K,
-    log: &mut L,
-    backing: &mut B,
-) -> Ended
+    log: L,
+    backing: B,
+) -> Outcome<L, B>
     ensures { IsAccounted (map string_bytes words.now) (run_of
         (lent (S.left source.old) (S.left source.new) (S.faults source.old) (S.faults source.new))
         (lent (K.taken sink.old) (K.taken sink.new) (K.faults sink.old) (K.faults sink.new))
-        (L.state log.old) (L.state log.new) (B.state backing.old) (B.state backing.new)
+        (L.state log) (L.state result.log) (B.state backing) (B.state result.backing)
         result.status result.transcripts.items result.places) }
 {
+    let mut log = log;
     match command_of(words) {
         None => {
             tell(sink, USAGE);
-            Ended::without_session(alloc, status::USAGE)
+            Outcome::without_session(alloc, status::USAGE, log, backing)
         }
         Some(Command::Format(numbers)) => {
-            let status = format_log(alloc, sink, log, backing.sectors(), numbers);
-            Ended::without_session(alloc, status)
+            let status = format_log(alloc, sink, &mut log, backing.sectors(), numbers);
+            Outcome::without_session(alloc, status, log, backing)
         }
         Some(Command::Serve) => serve(alloc, source, sink, log, backing),
         Some(Command::InspectSlot(slot)) => {
-            let status = inspect_slot(alloc, sink, log, slot);
-            Ended::without_session(alloc, status)
+            let status = inspect_slot(alloc, sink, &mut log, slot);
+            Outcome::without_session(alloc, status, log, backing)
         }
         Some(Command::Inspect) => {
-            let status = inspect_log(alloc, sink, log);
-            Ended::without_session(alloc, status)
+            let status = inspect_log(alloc, sink, &mut log);
+            Outcome::without_session(alloc, status, log, backing)
         }
     }
 }

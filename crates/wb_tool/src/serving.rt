@@ -1,139 +1,212 @@
 //! The command `serve`.
-ghost use Rattle.std.specs.Prelude.{◌≡◌, ◌≢◌, ◌≤◌};
+ghost use Rattle.std.specs.Prelude.{◌≡◌, ◌≢◌, ◌⊎◌, ◌≤◌, ◌-◌, ◌*◌, ◌^◌, false};
 ghost use Rattle.wb_script.specs.Output.{session_text};
 ghost use Rattle.wb_script.specs.Valid.{IsValid};
-ghost use Rattle.wb_tool.specs.Run.{run_of, lent, no_log};
-ghost use Rattle.wb_tool.specs.Served.{Served, EndsBy, FitsDevice, Reports};
-ghost use Rattle.wb_tool.specs.Serve.{Serves, ServeAccount};
+ghost use Rattle.wb_tool.specs.Run.{run_of, lent, no_source};
+ghost use Rattle.wb_tool.specs.Served.{EndsSession};
+ghost use Rattle.wb_tool.specs.Serve.{ServeAccount};
+ghost use Rattle.wb_tool.specs.Stages.{Leaves, EndsReading, EndsServing, EndsUnserved, TellsFault, IsCutAt};
 
-use crate::opening::{refuse_backing, refuse_log};
+use crate::opening::{refuse_backing, refuse_change, refuse_ids, refuse_log};
 use crate::reading::{ReadStop, read_all};
-use crate::run::Ended;
-use crate::session::play;
+use crate::run::Outcome;
 use crate::status;
-use crate::texts::{BACKING_FAILED, SOURCE_FAILED, refused_text, tell};
+use crate::texts::{BACKING_FAILED, LOG_FAILED, SOURCE_FAILED, refused_text, spent_text, tell};
 use std::alloc::Global;
 use wb_device::{Device, Sink, Source};
+use wb_engine::OpenCause;
 use wb_geometry::Geometry;
-use wb_script::{ParseStop, PrintStop, Script, Transcript, parse, print};
+use wb_script::{ParseStop, PrintStop, Script, parse, print};
+use wb_serve::{ServeStop, Served, Session, serve_plain};
 use wb_super::read_super;
 
-/// The first two stages: the superblock, and the size of the backing device.
+/// The number of ids.
+const IDS: u64 = 1 << 48;
+
+/// The first three stages: the superblock, the ids that its record leaves, and the size of the backing device.
 pub fn serve<S: Source, K: Sink, L: Device, B: Device>(
     alloc: Global,
     source: &mut S,
     sink: &mut K,
-    log: &mut L,
-    backing: &mut B,
-) -> Ended
+    log: L,
+    backing: B,
+) -> Outcome<L, B>
     ensures { ServeAccount (run_of
         (lent (S.left source.old) (S.left source.new) (S.faults source.old) (S.faults source.new))
         (lent (K.taken sink.old) (K.taken sink.new) (K.faults sink.old) (K.faults sink.new))
-        (L.state log.old) (L.state log.new) (B.state backing.old) (B.state backing.new)
+        (L.state log) (L.state result.log) (B.state backing) (B.state result.backing)
         result.status result.transcripts.items result.places) }
 {
-    let geometry = match read_super(log) {
-        Ok(found) => found.geometry,
-        Err(refused) => return Ended::without_session(alloc, refuse_log(alloc, sink, refused)),
+    let mut log = log;
+    let found = match read_super(&mut log) {
+        Ok(found) => found,
+        Err(refused) => {
+            let status = refuse_log(alloc, sink, refused);
+            return Outcome::without_session(alloc, status, log, backing);
+        }
     };
+    let geometry = found.geometry;
+    if found.recorded > most_recorded(geometry.slots) {
+        let status = refuse_ids(alloc, sink, found.recorded);
+        return Outcome::without_session(alloc, status, log, backing);
+    }
     let sectors = backing.sectors();
     if sectors < geometry.backing_sectors {
         let status = refuse_backing(alloc, sink, sectors, geometry.backing_sectors);
-        return Ended::without_session(alloc, status);
+        return Outcome::without_session(alloc, status, log, backing);
     }
-    serve_source(alloc, source, sink, backing, &geometry)
+    serve_source(alloc, source, sink, log, backing, &geometry)
+}
+
+/// The greatest record that leaves ids for a session, of a log with so many slots.
+fn most_recorded(slots: u32) -> u64
+    requires { slots ≤ 2 ^ 14 }
+    ensures { result ≡ 2 ^ 48 - 2 * slots }
+{
+    IDS - 2 * u64::from(slots)
 }
 
 /// The next two: the source, and the script that it holds.
-fn serve_source<S: Source, K: Sink, B: Device>(
+fn serve_source<S: Source, K: Sink, L: Device, B: Device>(
     alloc: Global,
     source: &mut S,
     sink: &mut K,
-    backing: &mut B,
+    log: L,
+    backing: B,
     geometry: &Geometry,
-) -> Ended
-    requires room { geometry.now.backing_sectors ≤ (B.state backing.old).sectors }
-    ensures { Serves geometry.now.backing_sectors (run_of
+) -> Outcome<L, B>
+    ensures { Leaves (EndsReading geometry.now.backing_sectors) (run_of
         (lent (S.left source.old) (S.left source.new) (S.faults source.old) (S.faults source.new))
         (lent (K.taken sink.old) (K.taken sink.new) (K.faults sink.old) (K.faults sink.new))
-        no_log no_log (B.state backing.old) (B.state backing.new)
+        (L.state log) (L.state result.log) (B.state backing) (B.state result.backing)
         result.status result.transcripts.items result.places) }
 {
     let bytes = match read_all(alloc, source) {
         Ok(bytes) => bytes,
-        Err(ReadStop::Memory) => return Ended::without_session(alloc, status::MEMORY),
+        Err(ReadStop::Memory) => {
+            return Outcome::without_session(alloc, status::MEMORY, log, backing);
+        }
         Err(ReadStop::Fault) => {
             tell(sink, SOURCE_FAILED);
-            return Ended::without_session(alloc, status::SOURCE);
+            return Outcome::without_session(alloc, status::SOURCE, log, backing);
         }
     };
     match parse(alloc, bytes.as_slice(), geometry) {
-        Ok(script) => serve_script(alloc, sink, backing, &script),
-        Err(ParseStop::Memory) => Ended::without_session(alloc, status::MEMORY),
+        Ok(script) => serve_script(alloc, sink, log, backing, &script),
+        Err(ParseStop::Memory) => Outcome::without_session(alloc, status::MEMORY, log, backing),
         Err(ParseStop::Refused(refused)) => {
             let Ok(text) = refused_text(alloc, refused) else {
-                return Ended::without_session(alloc, status::MEMORY);
+                return Outcome::without_session(alloc, status::MEMORY, log, backing);
             };
             tell(sink, text.as_str());
-            Ended::without_session(alloc, status::SCRIPT)
+            Outcome::without_session(alloc, status::SCRIPT, log, backing)
         }
     }
 }
 
-/// The session: the requests are answered, the entries are put, and the answers are printed.
-fn serve_script<K: Sink, B: Device>(
+/// The last: the session, over a cache that is opened for it.
+fn serve_script<K: Sink, L: Device, B: Device>(
     alloc: Global,
     sink: &mut K,
-    backing: &mut B,
+    log: L,
+    backing: B,
     script: &Script,
-) -> Ended
+) -> Outcome<L, B>
     requires valid { IsValid script.now }
-    requires fits { FitsDevice script.now.sectors (B.state backing.old).sectors }
-    ensures served { result.status ≢ 1 → Served script.now
+    ensures { Leaves (EndsServing script.now) (run_of no_source
         (lent (K.taken sink.old) (K.taken sink.new) (K.faults sink.old) (K.faults sink.new))
-        (B.state backing.old) (B.state backing.new)
-        result.status result.transcripts.items result.places }
-    ensures causes { EndsBy (lent (K.taken sink.old) (K.taken sink.new) (K.faults sink.old) (K.faults sink.new))
-        (B.state backing.old) (B.state backing.new) result.status }
+        (L.state log) (L.state result.log) (B.state backing) (B.state result.backing)
+        result.status result.transcripts.items result.places) }
 {
-    let requests = &script.requests()[0];
-    let Ok(played) = play(alloc, backing, 0, requests.as_slice()) else {
-        return Ended::without_session(alloc, status::MEMORY);
-    };
-    let stored = played.entries.put_all(backing);
-    let failed = played.failed || stored.is_err();
-    let places = played.entries.len() as u64;
-    let Ok(transcripts) = vec![in alloc; played.transcript] else {
-        return Ended::without_session(alloc, status::MEMORY);
-    };
-    let status = report(alloc, sink, script, transcripts.as_slice(), places, failed);
-    Ended {
-        status,
-        transcripts,
-        places,
+    let Served {
+        log,
+        backing,
+        answer,
+    } = serve_plain(alloc, log, backing, script);
+    match answer {
+        Ok(session) => {
+            let status = report(alloc, sink, script, &session);
+            Outcome {
+                status,
+                transcripts: session.transcripts,
+                places: session.places,
+                log,
+                backing,
+            }
+        }
+        Err(stop) => {
+            let status = refuse_session(alloc, sink, stop);
+            Outcome::without_session(alloc, status, log, backing)
+        }
     }
 }
 
-/// Prints the answers and, where the backing device failed, its fault line. Answers the status.
-fn report<K: Sink>(
-    alloc: Global,
-    sink: &mut K,
-    script: &Script,
-    transcripts: &[Transcript],
-    places: u64,
-    failed: bool,
-) -> u8
-    ensures { Reports (lent (K.taken sink.old) (K.taken sink.new) (K.faults sink.old) (K.faults sink.new))
-        (session_text script.now transcripts.now places) failed result }
+/// Tells why no session was served. Answers the status.
+fn refuse_session<K: Sink>(alloc: Global, sink: &mut K, stop: ServeStop) -> u8
+    ensures { EndsUnserved stop
+        (lent (K.taken sink.old) (K.taken sink.new) (K.faults sink.old) (K.faults sink.new)) result }
 {
-    match print(alloc, sink, script, transcripts, places) {
-        Err(PrintStop::Memory) => status::MEMORY,
-        Err(PrintStop::Fault) if failed => status::BACKING,
-        Err(PrintStop::Fault) => status::SINK,
-        Ok(()) if failed => {
-            tell(sink, BACKING_FAILED);
-            status::BACKING
+    match stop {
+        ServeStop::Open(OpenCause::Super(refused)) => refuse_log(alloc, sink, refused),
+        ServeStop::Open(OpenCause::IdsSpent(recorded)) => refuse_ids(alloc, sink, recorded),
+        ServeStop::Open(OpenCause::Backing { needs, has }) => {
+            refuse_backing(alloc, sink, has, needs)
         }
-        Ok(()) => status::DONE,
+        ServeStop::Open(OpenCause::Memory) => status::MEMORY,
+        ServeStop::Changed { parsed, found } => refuse_change(alloc, sink, parsed, found),
+    }
+}
+
+/// Prints the answers and, where the session ended badly, its fault line. Answers the status.
+fn report<K: Sink>(alloc: Global, sink: &mut K, script: &Script, session: &Session) -> u8
+    ensures { (result ≡ 1) ⊎ EndsSession
+        (lent (K.taken sink.old) (K.taken sink.new) (K.faults sink.old) (K.faults sink.new)) result
+        (session_text script.now session.now.transcripts.items session.now.places)
+        session.now.places session.now.ids session.now.log_failed session.now.backing_failed }
+{
+    let transcripts = session.transcripts.as_slice();
+    match print(alloc, sink, script, transcripts, session.places) {
+        Ok(()) => tell_fault(alloc, sink, session),
+        Err(PrintStop::Fault) => cut_status(session),
+        Err(PrintStop::Memory) => status::MEMORY,
+    }
+}
+
+/// Tells, behind the answers, why the session ended badly, if it did. Answers the status.
+fn tell_fault<K: Sink>(alloc: Global, sink: &mut K, session: &Session) -> u8
+    ensures { (result ≡ 1) ⊎ TellsFault
+        (lent (K.taken sink.old) (K.taken sink.new) (K.faults sink.old) (K.faults sink.new)) result
+        session.now.places session.now.ids session.now.log_failed session.now.backing_failed }
+{
+    if session.log_failed {
+        tell(sink, LOG_FAILED);
+        return status::LOG;
+    }
+    if session.backing_failed {
+        tell(sink, BACKING_FAILED);
+        return status::BACKING;
+    }
+    if !session.ids {
+        return status::DONE;
+    }
+    let Ok(text) = spent_text(alloc, session.places) else {
+        return status::MEMORY;
+    };
+    tell(sink, text.as_str());
+    status::IDS
+}
+
+/// The status of a session of whose answers the sink didn't take all.
+fn cut_status(session: &Session) -> u8
+    ensures { IsCutAt result session.now.ids session.now.log_failed session.now.backing_failed }
+{
+    if session.log_failed {
+        status::LOG
+    } else if session.backing_failed {
+        status::BACKING
+    } else if session.ids {
+        status::IDS
+    } else {
+        status::SINK
     }
 }

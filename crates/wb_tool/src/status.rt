@@ -29,3 +29,6 @@ pub const IMAGE: u8 = 8;
 
 /// A device has too few sectors.
 pub const SMALL: u8 = 9;
+
+/// No ids are left.
+pub const IDS: u8 = 10;

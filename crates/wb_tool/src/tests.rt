@@ -2,6 +2,7 @@
 mod brittle;
 mod faults;
 mod formats;
+mod ids;
 mod limits;
 mod refusals;
 mod sessions;
@@ -38,6 +39,27 @@ fn empty_log(alloc: Global, sectors: u64) -> Result<SteadyDevice, Fail> {
     let mut log = filled(alloc, LOG_SECTORS * SECTOR_BYTES, 0x5a)?;
     format(&mut log, &Geometry::new(5, 4, 2, sectors)?)?;
     Ok(log)
+}
+
+/// The first byte of the record.
+const RECORD_BYTE: usize = 2047 * SECTOR_BYTES;
+
+/// A log of so many slots of an order, for 64 backing sectors, with this record.
+fn recorded_log(
+    alloc: Global,
+    order: u32,
+    slots: u32,
+    recorded: u64,
+) -> Result<SteadyDevice, Fail> {
+    let geometry = Geometry::new(order, slots, 2, 64)?;
+    let mut log = filled(alloc, geometry.log_sectors() as usize * SECTOR_BYTES, 0x5a)?;
+    format(&mut log, &geometry)?;
+    let mut bytes = log.into_bytes();
+    let places = bytes.iter_mut().skip(RECORD_BYTE);
+    for (place, byte) in places.zip(recorded.to_le_bytes()) {
+        *place = byte;
+    }
+    Ok(SteadyDevice::of(bytes))
 }
 
 /// The text that a sink took.

@@ -2,7 +2,7 @@
 ghost use Rattle.std.specs.Prelude.{◌≡◌, IfOk};
 ghost use Rattle.std.specs.String.{string_bytes};
 ghost use Rattle.wb_tool.specs.Run.{lent, Took, EndsTelling};
-ghost use Rattle.wb_tool.specs.Texts.{small_line, refused_line, sum_text, super_line, geometry_text, formatted_line, inspected_line};
+ghost use Rattle.wb_tool.specs.Texts.{small_line, refused_line, spent_record_line, spent_line, changed_line, sum_text, super_line, geometry_text, formatted_line, inspected_line};
 
 use crate::status;
 use std::alloc::{AllocError, Global};
@@ -38,6 +38,27 @@ pub fn refused_text(alloc: Global, refused: ScriptRefused) -> Result<String, All
     let line = refused.line;
     let cause = refused.cause;
     format!(in alloc; "wblog: script line {line}: {cause}\n")
+}
+
+/// The line for a record that leaves no ids for a session.
+pub fn spent_record_text(alloc: Global, recorded: u64) -> Result<String, AllocError>
+    ensures { IfOk result (λ text. string_bytes text ≡ spent_record_line recorded) }
+{
+    format!(in alloc; "wblog: ids spent, record {recorded}\n")
+}
+
+/// The line for a session in which a write found no id. So many places were taken.
+pub fn spent_text(alloc: Global, places: u64) -> Result<String, AllocError>
+    ensures { IfOk result (λ text. string_bytes text ≡ spent_line places) }
+{
+    format!(in alloc; "wblog: ids spent, place {places}\n")
+}
+
+/// The line for a log whose backing sectors are other than those that the script was parsed for.
+pub fn changed_text(alloc: Global, parsed: u64, found: u64) -> Result<String, AllocError>
+    ensures { IfOk result (λ text. string_bytes text ≡ changed_line parsed found) }
+{
+    format!(in alloc; "wblog: log image: changed {parsed} {found}\n")
 }
 
 /// The line for a superblock that is refused, or can't be read.

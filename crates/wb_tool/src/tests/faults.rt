@@ -1,6 +1,6 @@
 //! Tests of devices of which each call fails in turn.
 use super::brittle::{Brittle, Call};
-use super::{SECTOR_BYTES, empty_log, run, serve, text_of};
+use super::{SECTOR_BYTES, empty_log, recorded_log, run, serve, text_of};
 use std::test::Fail;
 use wb_device::{FaultPlan, MemoryDevice};
 
@@ -22,8 +22,13 @@ const CALLS: [Call; 5] = [
     Call::Sync,
 ];
 
-// What is read of the log: the superblock and the record.
-const OPENING: [Call; 2] = [Call::Read(0), Call::Read(2047)];
+// What is read of the log: the superblock and the record. A session reads both again, as its cache is opened.
+const OPENINGS: [Call; 4] = [
+    Call::Read(0),
+    Call::Read(2047),
+    Call::Read(0),
+    Call::Read(2047),
+];
 
 const FAULT: &str = "wblog: backing device failed\n";
 
@@ -53,7 +58,7 @@ fn each_call_of_the_backing_device_fails_in_turn(rt: HostRuntime) -> Result<(), 
         assert_eq!(rt; text_of(&sink)?, output.as_str());
         assert_eq!(rt; outcome.backing.calls().len(), calls);
         assert!(rt; CALLS.starts_with(outcome.backing.calls()));
-        assert_eq!(rt; outcome.log.calls(), OPENING.as_slice());
+        assert_eq!(rt; outcome.log.calls(), OPENINGS.as_slice());
         let mut image = [0x5a; 64 * SECTOR_BYTES];
         image[..SECTOR_BYTES].fill(first);
         image[8 * SECTOR_BYTES..9 * SECTOR_BYTES].fill(ninth);
@@ -65,14 +70,18 @@ fn each_call_of_the_backing_device_fails_in_turn(rt: HostRuntime) -> Result<(), 
 #[test]
 fn each_call_of_the_log_device_fails_in_turn(rt: HostRuntime) -> Result<(), Fail> {
     let alloc = rt.alloc();
-    for words in ["serve LOG BACKING", "inspect LOG BACKING"] {
-        for failing in 0..OPENING.len() {
+    let rows = [
+        ("serve LOG BACKING", OPENINGS.as_slice()),
+        ("inspect LOG BACKING", &OPENINGS[..2]),
+    ];
+    for (words, calls) in rows {
+        for failing in 0..calls.len() {
             let log = Brittle::of(alloc, empty_log(alloc, 64)?.into_bytes(), Some(failing));
             let backing = Brittle::of(alloc, vec![in alloc; 0x5a; 64 * SECTOR_BYTES]?, None);
             let (outcome, sink) = run(alloc, words, SCRIPT, log, backing)?;
             assert_eq!(rt; outcome.status, 6, "at {failing} of {words}");
             assert_eq!(rt; text_of(&sink)?, "wblog: log device failed\n");
-            assert_eq!(rt; outcome.log.calls(), &OPENING[..failing + 1]);
+            assert_eq!(rt; outcome.log.calls(), &calls[..failing + 1]);
             assert!(rt; outcome.backing.calls().is_empty());
             assert!(rt; outcome.transcripts.is_empty());
         }
@@ -95,5 +104,42 @@ fn a_backing_device_that_stops_ends_the_session(rt: HostRuntime) -> Result<(), F
     let output = "0 w 0 1 at 0\nplaces 1\nwblog: backing device failed\n";
     assert_eq!(rt; text_of(&sink)?, output);
     assert!(rt; outcome.backing.bytes().iter().all(|byte| *byte == 0));
+    Ok(())
+}
+
+const FOUR: &str = "\
+clients 1
+0 w 0 1 01
+0 w 8 1 02
+0 w 16 1 03
+0 w 24 1 04
+0 r 8 1
+";
+
+// Two segments of one place are kept in memory. What is in them is still read.
+const STOPPED: &str = "\
+0 w 0 1 at 0
+0 w 8 1 at 1
+0 w 16 1 down backing
+0 w 24 1 down backing
+0 r 8 1 point 2 02
+places 2
+wblog: backing device failed
+";
+
+#[test]
+fn a_write_that_finds_no_room_is_stopped(rt: HostRuntime) -> Result<(), Fail> {
+    let alloc = rt.alloc();
+    let stopped = FaultPlan {
+        faults: Vec::new(alloc),
+        stop: Some(0),
+    };
+    let backing = MemoryDevice::of(alloc, vec![in alloc; 0x5a; 64 * SECTOR_BYTES]?, stopped)?;
+    let log = recorded_log(alloc, 4, 2, 0)?;
+    let (outcome, sink) = serve(alloc, FOUR, log, backing)?;
+    assert_eq!(rt; outcome.status, 7);
+    assert_eq!(rt; text_of(&sink)?, STOPPED);
+    assert_eq!(rt; outcome.places, 2);
+    assert!(rt; outcome.backing.bytes().iter().all(|byte| *byte == 0x5a));
     Ok(())
 }

@@ -1,5 +1,4 @@
-use Rattle.std.proofs.Common.{◌≡◌, ◌*◌, inr, refl, sym, subst, ap, ◌∙◌, arith, length, take, List, ℕ}
-use Rattle.std.proofs.Math.Seq.{take-append_seam}
+use Rattle.std.proofs.Common.{◌≡◌, ◌*◌, inr, sym, subst, ap, ◌∙◌, arith, length, List, ℕ}
 use Rattle.std.specs.String.{string_bytes}
 use Rattle.wb_geometry.specs.Layout.{slot_sectors}
 use Rattle.wb_geometry.specs.Device.{HoldsContent}

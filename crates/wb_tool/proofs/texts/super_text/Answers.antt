@@ -1,4 +1,4 @@
-use Rattle.std.proofs.Common.{refl, sym, ◌∙◌, append_assoc}
+use Rattle.std.proofs.Common.{refl, ◌∙◌, append_assoc}
 use Rattle.std.proofs.lemmas.Result.{IfOk-weaker}
 use Rattle.wb_tool.proofs.texts.super_text.Goals as goal
 

@@ -23,7 +23,7 @@ AreNumbered-push first count old new cached is block bits before =
         ap (λ (blocks : List TextBlock). get_or blocks j no_block) pushed ∙ get_or_append_left (blocks_of old) (block_of cached ∷ []) no_block j (omega (arith, before.size))
 
 IsSegment-numbered : (id first count : ℕ) (cached : List Cached) → 1 ≤ id → 1 ≤ count → count ≤ 127 → AreNumbered first count cached
-    → IsSegment (record { id = id; blocks = blocks_of cached })
+    → IsSegment id (blocks_of cached)
 IsSegment-numbered id first count cached named some few are = record {
   named = named;
   some = omega (arith, are.size);

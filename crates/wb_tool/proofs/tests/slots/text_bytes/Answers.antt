@@ -7,9 +7,9 @@ use Rattle.wb_tool.proofs.tests.slots.text_bytes.Goals as goal
 
 -- a segment of one block
 one_block : (id : ℕ) (cached : Cached) (items : List Cached) → items ≡ cached ∷ [] → 1 ≤ id → cached.payload.value.bits ≢ 0
-    → IsSegment (record { id = id; blocks = blocks_of items })
+    → IsSegment id (blocks_of items)
 one_block id cached items are named dirty =
-    subst (λ (list : List Cached). IsSegment (record { id = id; blocks = blocks_of list })) (sym are) (record {
+    subst (λ (list : List Cached). IsSegment id (blocks_of list)) (sym are) (record {
       named = named;
       some = omega arith;
       few = omega arith;

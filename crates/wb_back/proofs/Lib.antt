@@ -1,0 +1,4 @@
+pub mod Added
+pub mod Planning
+pub mod Runs
+pub mod Writing

@@ -1,0 +1,7 @@
+-- So many places are filled.
+use Rattle.std.proofs.Common.{◌-◌}
+use Rattle.wb_engine.proofs.Filling.{IsFilling}
+use Rattle.wb_engine.proofs.engine.Engine.fill_open.Given as goal
+
+abbrev pub invariant-loop : goal.invariant-loop
+invariant-loop g l = IsFilling l.fn.self l.self (g.B.Device.state l.fn.self.backing) (l.counter - l.begun)

@@ -1,0 +1,9 @@
+pub mod Closing
+pub mod Content
+pub mod Holding
+pub mod Memory
+pub mod Opening
+pub mod Reading
+pub mod Spots
+pub mod Standing
+pub mod Turning

@@ -1,0 +1,115 @@
+-- What an engine stands for: an image at the start, and a history.
+use Rattle.std.specs.Prelude.{ℕ, ◌≡◌, ◌≢◌, ◌⊎◌, ◌+◌, ◌*◌, ◌/◌, ◌%◌, ◌<◌, ◌≤◌, ◌^◌, List, [], ◌∷◌, ◌++◌, length, All, None, Some}
+use Rattle.wb_geometry.specs.Image.{Image}
+use Rattle.wb_geometry.specs.Device.{State, NothingPending}
+use Rattle.wb_geometry.specs.History.{HistoryEntry, IsBlockInside}
+use Rattle.wb_geometry.specs.Entering.{entered}
+use Rattle.wb_geometry.specs.Layout.{places}
+use Rattle.wb_geometry.specs.Line.{Line, line_of, Agrees}
+use Rattle.wb_geometry.specs.declared.geometry.Geometry.{Geometry}
+use Rattle.wb_geometry.specs.declared.entry.Entry.{Entry}
+use Rattle.wb_geometry.specs.declared.entry.Entry.TheVariants as entry
+use Rattle.wb_header.specs.Standing.{StandsFor}
+use Rattle.wb_header.specs.Segments.{Segment}
+use Rattle.wb_engine.specs.Memory.{MemoryContent, live, segment_at}
+use Rattle.wb_engine.specs.Content.{EngineContent, limit_of}
+use Rattle.wb_engine.specs.declared.numbers.Numbers.{Numbers}
+
+-- the history, cut into the engine's segments
+abbrev pub line : {L B : Type 0} → EngineContent L B → Image → List HistoryEntry → Line
+line e base history = line_of (places e.geometry) e.numbers.first base history
+
+-- An image of the backing device: for each segment from the recorded one to the last that is back it agrees with the image
+-- after that segment in each sector that no segment behind it, up to the last that was begun, writes.
+pub record IsBackingImage (line : Line) (e : Numbers) (y : Image) : Type 0 where
+  pub size : length y ≡ length line.base
+  pub agrees : (r : ℕ) → e.recorded ≤ r → r ≤ e.back → Agrees line r e.tried y
+
+-- The history has the places that were absorbed; the blocks of each segment in memory stand for its entries; and each image
+-- that the backing device shows is one of its images.
+pub record Standing {L B : Type 0} (Shows : Image → Type 0) (e : EngineContent L B) (base : Image) (history : List HistoryEntry) : Type 0 where
+  pub places : length history ≡ e.absorbed
+  pub memory : (j : ℕ) → j < length (live e.memory)
+      → StandsFor (segment_at (live e.memory) j).blocks ((line e base history).list (segment_at (live e.memory) j).id)
+  pub images : (y : Image) → Shows y → IsBackingImage (line e base history) e.numbers y
+
+-- a device shows its content, where it tells it; and what a crash now may leave
+abbrev pub Told : State → Image → Type 0
+Told s y = s.content ≡ Some y
+
+abbrev pub Left : State → Image → Type 0
+Left s y = s.leaves_now y
+
+-- once a segment was written back, a crash leaves what a read gives, while the engine is up
+pub record IsSynced {L B : Type 0} (e : EngineContent L B) (backing : State) : Type 0 where
+  pub synced : e.down ≡ None → e.numbers.first < e.numbers.recorded → NothingPending backing
+
+-- a write has a dirty sector, and its block is inside; another entry isn't the first of a segment
+abbrev pub Fits : {L B : Type 0} → EngineContent L B → Entry → Type 0
+Fits e (entry.Write client block payload) = (payload.value.bits ≢ 0) × (8 * block + 8 ≤ e.geometry.backing_sectors)
+Fits e (entry.Void client) = e.absorbed % places e.geometry ≢ 0
+
+-- there is room for the entry, an id for its segment, and it fits
+pub record MayCome {L B : Type 0} (e : EngineContent L B) (entry : Entry) : Type 0 where
+  pub room : e.absorbed < limit_of e.geometry e.numbers
+  pub ids : e.numbers.first + 1 + e.absorbed / places e.geometry ≤ 2 ^ 48
+  pub fits : Fits e entry
+
+-- what absorbing leaves as it was, the devices among it
+pub record IsOffDevices {L B : Type 0} (old new : EngineContent L B) : Type 0 where
+  pub geometry : new.geometry ≡ old.geometry
+  pub down : new.down ≡ old.down
+  pub log : new.log ≡ old.log
+  pub backing : new.backing ≡ old.backing
+
+-- the numbers once so many places are taken
+abbrev pub numbers_at : Geometry → Numbers → (absorbed : ℕ) → Numbers
+numbers_at g e absorbed = record e { sealed = e.first + absorbed / places g }
+
+-- all but the devices is as it was
+pub record IsSameEngine {L B : Type 0} (old new : EngineContent L B) : Type 0 where
+  pub geometry : new.geometry ≡ old.geometry
+  pub numbers : new.numbers ≡ old.numbers
+  pub absorbed : new.absorbed ≡ old.absorbed
+  pub down : new.down ≡ old.down
+  pub memory : new.memory ≡ old.memory
+
+-- a write has a dirty sector
+abbrev pub IsDirty : Entry → Type 0
+IsDirty (entry.Write client block payload) = payload.value.bits ≢ 0
+IsDirty (entry.Void client) = Unit {0}
+
+-- how many blocks an entry may add to a segment
+abbrev pub blocks_of : Entry → ℕ
+blocks_of (entry.Write client block payload) = 1
+blocks_of (entry.Void client) = 0
+
+-- the entry is in the open segment
+pub record Keeps (come : Entry) (memory new_memory : MemoryContent) : Type 0 where
+  pub stands : (entries : List HistoryEntry) → StandsFor memory.current.blocks entries → StandsFor new_memory.current.blocks (entries ++ entered come ∷ [])
+  pub id : new_memory.current.id ≡ memory.current.id
+  pub sealed : new_memory.sealed ≡ memory.sealed
+  pub places : new_memory.places ≡ memory.places
+  pub segments : new_memory.segments ≡ memory.segments
+  pub few : length new_memory.current.blocks ≤ length memory.current.blocks + blocks_of come
+  pub some : 1 ≤ length memory.current.blocks + blocks_of come → 1 ≤ length new_memory.current.blocks
+  pub inside : (sectors : ℕ) → All (λ block. 8 * block.number + 8 ≤ sectors) memory.current.blocks → IsBlockInside sectors (entered come)
+      → All (λ block. 8 * block.number + 8 ≤ sectors) new_memory.current.blocks
+
+-- the open segment was sealed, and the next opened
+pub record IsNextOpened (numbers new_numbers : Numbers) (memory new_memory : MemoryContent) : Type 0 where
+  pub numbers_are : new_numbers ≡ record numbers { sealed = numbers.sealed + 1 }
+  pub segment : Segment
+  pub sealed : new_memory.sealed ≡ memory.sealed ++ segment ∷ []
+  pub id : segment.id ≡ memory.current.id
+  pub blocks : segment.blocks ≡ memory.current.blocks
+  pub next_id : new_memory.current.id ≡ memory.current.id + 1
+  pub next_blocks : new_memory.current.blocks ≡ []
+  pub places : new_memory.places ≡ memory.places
+  pub segments : new_memory.segments ≡ memory.segments
+
+-- so it was where all of its places are taken, and else nothing was done
+abbrev pub IsSealedIfFull : (absorbed each : ℕ) (numbers new_numbers : Numbers) (memory new_memory : MemoryContent) → Type 0
+IsSealedIfFull absorbed each numbers new_numbers memory new_memory =
+    ((absorbed % each ≡ 0) × IsNextOpened numbers new_numbers memory new_memory)
+    ⊎ ((absorbed % each ≢ 0) × (new_numbers ≡ numbers) × (new_memory ≡ memory))

@@ -1,0 +1,8 @@
+//! Serving the clients of a script over a cache. `specs/Session.antt` says what a session leaves.
+#![tactic(auto)]
+
+mod playing;
+mod serving;
+mod writing;
+
+pub use serving::{ServeStop, Served, Session, serve_plain};

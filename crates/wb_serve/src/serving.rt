@@ -1,0 +1,123 @@
+//! Serving a script on one thread.
+ghost use Rattle.std.specs.Prelude.{◌≡◌, IfOk, IfErr};
+ghost use Rattle.wb_geometry.specs.Device.{OnlyRead, CountsFaultsWhere};
+ghost use Rattle.wb_script.specs.Valid.{IsValid};
+ghost use Rattle.wb_super.specs.declared.reading.Super.{Super};
+ghost use Rattle.wb_engine.specs.declared.opening.OpenCause.TheVariants.{Memory};
+ghost use Rattle.wb_serve.specs.Session.{IsSession, IsUnserved, SaysLogFault};
+ghost use Rattle.wb_serve.specs.Ending.{TellsOf, is_down_by};
+ghost use Rattle.wb_serve.specs.declared.serving.ServeStop.TheVariants.{Open};
+
+use crate::playing::{Played, play};
+use std::alloc::{AllocError, Global};
+use wb_device::Device;
+use wb_engine::{Engine, OpenCause};
+use wb_geometry::Which;
+use wb_script::{Script, Transcript};
+
+/// A session that was served: the transcript of each client, the number of places that were taken, the record at its start,
+/// whether a write was stopped for want of an id, and for each device whether it failed in the call.
+#[derive(Drop)]
+pub struct Session {
+    pub transcripts: Vec<Transcript>,
+    pub places: u64,
+    pub first: u64,
+    pub ids: bool,
+    pub log_failed: bool,
+    pub backing_failed: bool,
+}
+
+/// Why no session was served.
+#[derive(Clone, Copy, Debug, PartialEq, Eq)]
+pub enum ServeStop {
+    /// The cache wasn't opened. `Memory` also where memory was wanting later in the call.
+    Open(OpenCause),
+    /// The cache has `found` backing sectors, fewer than the `parsed` for which the script was made.
+    Changed { parsed: u64, found: u64 },
+}
+
+/// What serving left: both devices, given back, and the session or why there was none.
+#[derive(Drop)]
+pub struct Served<L: Device, B: Device> {
+    pub log: L,
+    pub backing: B,
+    pub answer: Result<Session, ServeStop>,
+}
+
+/// Opens the cache, serves the clients of the script one after another, and closes it.
+pub fn serve_plain<L: Device, B: Device>(
+    alloc: Global,
+    log: L,
+    backing: B,
+    script: &Script,
+) -> Served<L, B>
+    requires { IsValid script.now }
+    ensures session { IfOk result.answer (λ s. (found : Super) × IsSession found script.now (L.state log) (L.state result.log) (B.state backing) (B.state result.backing)
+        s.transcripts.items s.places s.ids s.log_failed s.backing_failed × (s.first ≡ found.recorded)) }
+    ensures unserved { IfErr result.answer (IsUnserved script.now.sectors (L.state log) (B.state backing) (B.state result.backing)) }
+    ensures log { OnlyRead (L.state log) (L.state result.log) }
+    ensures log_cause { CountsFaultsWhere (SaysLogFault result.answer) (L.state log).faults (L.state result.log).faults }
+{
+    let mut engine = match Engine::open(alloc, log, backing) {
+        Ok(engine) => engine,
+        Err(stop) => {
+            return Served {
+                log: stop.log,
+                backing: stop.backing,
+                answer: Err(ServeStop::Open(stop.cause)),
+            };
+        }
+    };
+    let (parsed, found) = (script.sectors(), engine.geometry().backing_sectors);
+    if found < parsed {
+        let (log, backing) = engine.into_devices();
+        return Served {
+            log,
+            backing,
+            answer: Err(ServeStop::Changed { parsed, found }),
+        };
+    }
+    let played = play(alloc, &mut engine, 0, script.requests()[0].as_slice());
+    let (first, places) = (engine.first(), engine.absorbed());
+    let closed = engine.close();
+    Served {
+        log: closed.log,
+        backing: closed.backing,
+        answer: session_of(alloc, played, first, places, closed.fault),
+    }
+}
+
+/// What a session tells, where its requests were played: beside them these numbers, and the device that failed in a write or
+/// a sync, if one did.
+fn session_of(
+    alloc: Global,
+    played: Result<Played, AllocError>,
+    first: u64,
+    places: u64,
+    fault: Option<Which>,
+) -> Result<Session, ServeStop>
+    ensures told { IfOk result (TellsOf played first places fault) }
+    ensures memory { IfErr result (λ why. why ≡ Open Memory) }
+{
+    let Ok(played) = played else {
+        return Err(ServeStop::Open(OpenCause::Memory));
+    };
+    let Ok(transcripts) = vec![in alloc; played.transcript] else {
+        return Err(ServeStop::Open(OpenCause::Memory));
+    };
+    Ok(Session {
+        transcripts,
+        places,
+        first,
+        ids: played.ids,
+        log_failed: played.log_failed || is_down_by(Which::Log, fault),
+        backing_failed: played.backing_failed || is_down_by(Which::Backing, fault),
+    })
+}
+
+/// Whether it was this device that failed.
+fn is_down_by(which: Which, fault: Option<Which>) -> bool
+    ensures { result ≡ is_down_by which fault }
+{
+    matches!(fault, Some(device) if device == which)
+}

@@ -1,0 +1,102 @@
+//! A write of a client over the engine.
+ghost use Rattle.std.specs.Prelude.{◌≡◌, ◌+◌, ◌*◌, ◌<◌, ◌≤◌, [], false, None, IfOk, IfSome};
+ghost use Rattle.wb_geometry.specs.Entering.{entered};
+ghost use Rattle.wb_script.specs.declared.request.Request.TheVariants.{Write};
+ghost use Rattle.wb_engine.specs.Content.{IsEngine, limit_of};
+ghost use Rattle.wb_engine.specs.Standing.{Fits};
+ghost use Rattle.wb_serve.specs.Playing.{IsOneSector, HasMoved, IsDownBy, TakesPlace, IsAnswered, wrote};
+
+use std::alloc::{AllocError, Global};
+use wb_device::Device;
+use wb_engine::Engine;
+use wb_geometry::{Block, Entry, Part, Places, Which};
+use wb_script::{Line, Pattern, Stop};
+
+const SECTOR_BYTES: usize = 512;
+
+/// The greatest id of a segment.
+const MOST_ID: u64 = 1 << 48;
+
+/// Writes one sector for a client, and answers with the place that it took, or why it was stopped.
+pub fn write<L: Device, B: Device>(
+    alloc: Global,
+    engine: &mut Engine<L, B>,
+    client: u32,
+    sector: u64,
+    pattern: &Pattern,
+) -> Result<Line, AllocError>
+    requires { IsOneSector engine.old.geometry.backing_sectors (Write sector 1 pattern.now false) }
+    ensures answered { IfOk result (IsAnswered client (Write sector 1 pattern.now false)
+        (B.state engine.old.backing) (B.state engine.new.backing) engine.old engine.new) }
+    ensures log { engine.new.log ≡ engine.old.log }
+{
+    let part = Part {
+        block: sector / 8,
+        from: (sector % 8) as u8,
+        count: 1,
+    };
+    let bytes = [pattern.as_slice()[0]; SECTOR_BYTES];
+    let payload = Block::boxed(alloc, &part, &bytes)?;
+    let entry = Entry::Write {
+        client,
+        block: part.block,
+        payload,
+    };
+    Ok(line_of(take_place(engine, entry)))
+}
+
+/// The line of a write of one part: the place that it took, or why it was stopped.
+fn line_of(taken: Result<u64, Stop>) -> Line
+    ensures { result ≡ wrote taken }
+{
+    let mut places = Places::new();
+    match taken {
+        Ok(place) => {
+            places.push(place);
+            Line::Wrote {
+                places,
+                stop: Stop::Whole,
+            }
+        }
+        Err(stop) => Line::Wrote { places, stop },
+    }
+}
+
+/// Absorbs an entry, for which turns are made where there is no room. Answers its place, or why there is none: no id is left
+/// for its segment, or there is no room and the engine is down.
+fn take_place<L: Device, B: Device>(engine: &mut Engine<L, B>, entry: Entry) -> Result<u64, Stop>
+    requires { Fits engine.old entry }
+    ensures taken { TakesPlace (B.state engine.old.backing) (B.state engine.new.backing) engine.old engine.new (entered entry) result }
+    ensures log { engine.new.log ≡ engine.old.log }
+{
+    let place = engine.absorbed();
+    if engine.geometry().segment_of(place, engine.first()) > MOST_ID {
+        return Err(Stop::Ids);
+    }
+    if let Some(device) = make_room(engine) {
+        return Err(Stop::Down { device });
+    }
+    engine.absorb(entry);
+    Ok(place)
+}
+
+/// Makes room for an entry where there is none: a turn frees a segment. Answers the device by which the engine is down, where
+/// there is no room.
+fn make_room<L: Device, B: Device>(engine: &mut Engine<L, B>) -> Option<Which>
+    requires { IsEngine engine.old (L.state engine.old.log) (B.state engine.old.backing) }
+    ensures moved { HasMoved (B.state engine.old.backing) (B.state engine.new.backing) engine.old engine.new [] 0 }
+    ensures room { result ≡ None → engine.new.absorbed < limit_of engine.new.geometry engine.new.numbers }
+    ensures down { IfSome result (IsDownBy engine.new) }
+    ensures log { engine.new.log ≡ engine.old.log }
+{
+    if engine.absorbed() < engine.limit() {
+        return None;
+    }
+    if let Some(device) = engine.down() {
+        return Some(device);
+    }
+    match engine.turn() {
+        Ok(_) => None,
+        Err(device) => Some(device),
+    }
+}

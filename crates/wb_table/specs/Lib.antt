@@ -1,0 +1,5 @@
+pub mod Keeping
+pub mod Lookup
+pub mod Places
+pub mod Queue
+pub mod Tables
