@@ -1,5 +1,5 @@
 -- An entry was absorbed: what holds of the engine, and what it stands for.
-use Rattle.std.proofs.Common.{ℕ, suc, zero, ◌≡◌, ◌≢◌, ◌⊎◌, ◌+◌, ◌-◌, ◌*◌, ◌/◌, ◌%◌, ◌<◌, ◌≤◌, ◌^◌, List, [], ◌∷◌, ◌++◌, length, Option, Some, None, inl, inr, refl, ap, sym, ◌∙◌, subst, arith}
+use Rattle.std.proofs.Common.{ℕ, suc, ◌≡◌, ◌⊎◌, ◌+◌, ◌-◌, ◌*◌, ◌/◌, ◌%◌, ◌<◌, ◌≤◌, ◌^◌, List, [], ◌∷◌, ◌++◌, length, inl, inr, refl, ap, sym, ◌∙◌, subst, arith}
 use Rattle.std.specs.List.{All}
 use Rattle.std.proofs.Math.Nat.{mul-suc, mul-le-mul_left, mul-le-mul_right, div-add-mod, mod-lt, mod_self, div_self, mod-eq_of_lt, div-eq_of_lt, add-mul-mod_self_left, add-mul-div_left, eq-or-lt_of_le}
 use Rattle.std.proofs.lemmas.Bool.{cases_eq}
@@ -20,7 +20,7 @@ use Rattle.wb_header.specs.Text.{TextBlock}
 use Rattle.wb_header.specs.Segments.{Segment}
 use Rattle.wb_header.specs.Standing.{StandsFor}
 use Rattle.wb_header.proofs.Standings.{stands_none}
-use Rattle.wb_engine.specs.Memory.{MemoryContent, live, segment_at}
+use Rattle.wb_engine.specs.Memory.{MemoryContent, live}
 use Rattle.wb_engine.specs.Content.{EngineContent, IsEngine, IsInsideBacking, limit_of}
 use Rattle.wb_engine.specs.Standing.{Standing, MayCome, Fits, Keeps, blocks_of, IsNextOpened, IsSealedIfFull, numbers_at}
 use Rattle.wb_engine.specs.declared.numbers.Numbers.{Numbers}

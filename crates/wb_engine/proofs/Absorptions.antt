@@ -1,22 +1,20 @@
 -- An entry comes to an engine: what it stands for, with the entry behind.
-use Rattle.std.proofs.Common.{ℕ, suc, zero, ◌≡◌, ◌≢◌, ◌⊎◌, ◌+◌, ◌-◌, ◌*◌, ◌/◌, ◌%◌, ◌<◌, ◌≤◌, List, [], ◌∷◌, ◌++◌, length, inl, inr, refl, ap, sym, ◌∙◌, subst, arith}
-use Rattle.std.proofs.Math.Nat.{mul-suc, mul-zero, div-add-mod, mod-lt, mul-le-mul_left}
+use Rattle.std.proofs.Common.{ℕ, suc, ◌≡◌, ◌+◌, ◌-◌, ◌*◌, ◌/◌, ◌%◌, ◌<◌, ◌≤◌, List, [], ◌∷◌, ◌++◌, length, ap, sym, ◌∙◌, subst, arith}
+use Rattle.std.proofs.Math.Nat.{mul-suc, div-add-mod, mod-lt, mul-le-mul_left}
 use Rattle.std.proofs.lemmas.List.{length_push}
 use Rattle.wb_geometry.specs.Image.{Image}
 use Rattle.wb_geometry.specs.History.{HistoryEntry}
 use Rattle.wb_geometry.specs.Layout.{places}
 use Rattle.wb_geometry.specs.Line.{segment}
-use Rattle.wb_geometry.specs.declared.geometry.Geometry.{Geometry}
 use Rattle.wb_geometry.proofs.Geometries.{places_few}
 use Rattle.wb_geometry.proofs.Lines.{segment-kept, segment-push, segment-none}
 use Rattle.wb_header.specs.Segments.{Segment}
 use Rattle.wb_header.specs.Standing.{StandsFor}
 use Rattle.wb_engine.specs.Memory.{MemoryContent, live, segment_at}
-use Rattle.wb_engine.specs.Content.{EngineContent, IsOrdered}
-use Rattle.wb_engine.specs.Standing.{Standing, line}
-use Rattle.wb_engine.specs.declared.numbers.Numbers.{Numbers}
+use Rattle.wb_engine.specs.Content.{EngineContent}
+use Rattle.wb_engine.specs.Standing.{Standing}
 use Rattle.wb_engine.proofs.Standings.{backing_image_grown}
-use Rattle.wb_engine.proofs.Held.{AreHeld, AreInTurn, at_front, held_push, held_front, held_last, held_same, turn_front, turn_last}
+use Rattle.wb_engine.proofs.Held.{AreHeld, AreInTurn, held_push, held_front, held_last, held_same, turn_front, turn_last}
 
 -- ---- places and segments
 

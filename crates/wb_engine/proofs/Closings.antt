@@ -1,12 +1,12 @@
 -- The end of an engine: its segments are filled with places that change nothing, and written back.
-use Rattle.std.proofs.Common.{ℕ, suc, zero, ◌≡◌, ◌⊎◌, ◌+◌, ◌-◌, ◌*◌, ◌/◌, ◌%◌, ◌<◌, ◌≤◌, List, [], ◌∷◌, ◌++◌, length, take, drop, replicate, get_or, Option, Some, None, Contains, inl, inr, refl, ap, sym, ◌∙◌, subst, arith}
+use Rattle.std.proofs.Common.{ℕ, ◌≡◌, ◌+◌, ◌-◌, ◌*◌, ◌/◌, ◌%◌, ◌<◌, ◌≤◌, List, ◌++◌, length, take, drop, replicate, get_or, Some, None, Contains, inl, inr, ap, sym, ◌∙◌, subst, arith}
 use Rattle.std.proofs.Math.Nat.{div-add-mod}
 use Rattle.std.proofs.lemmas.List.{take-append-drop, length-replicate, get_or-replicate}
 use Rattle.std.proofs.lemmas.List.Elements.{Contains-append_left, Contains-append_right, Contains-append_cases}
 use Rattle.wb_geometry.specs.Image.{Image, sector}
 use Rattle.wb_geometry.specs.History.{HistoryEntry, Void, after, written, PutsPartly}
 use Rattle.wb_geometry.specs.Layout.{places}
-use Rattle.wb_geometry.specs.Line.{segment, image}
+use Rattle.wb_geometry.specs.Line.{segment}
 use Rattle.wb_geometry.proofs.Histories.{after-append}
 use Rattle.wb_geometry.proofs.Lines.{image-all}
 use Rattle.wb_engine.specs.Content.{EngineContent}

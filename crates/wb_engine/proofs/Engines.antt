@@ -1,23 +1,19 @@
 -- What always holds of an engine, from one step to the next.
-use Rattle.std.proofs.Common.{ℕ, suc, zero, ◌≡◌, ◌≢◌, ◌⊎◌, ◌+◌, ◌-◌, ◌*◌, ◌/◌, ◌%◌, ◌<◌, ◌≤◌, ◌^◌, List, [], ◌∷◌, ◌++◌, length, drop, Option, Some, None, inl, inr, refl, ap, sym, ◌∙◌, subst, arith}
+use Rattle.std.proofs.Common.{◌≡◌, ◌+◌, ◌-◌, ◌*◌, ◌%◌, ◌≤◌, List, [], ◌∷◌, ◌++◌, length, drop, None, refl, ap, sym, ◌∙◌, subst, arith}
 use Rattle.std.specs.List.{All}
-use Rattle.std.proofs.Math.Nat.{mul-suc, mul-le-mul_left, div-add-mod, mod-lt}
-use Rattle.std.proofs.lemmas.List.{length_push}
-use Rattle.std.proofs.lemmas.List.Elements.{All-nil, All-cons, All-push, All-tail, All-append}
+use Rattle.std.proofs.Math.Nat.{mul-le-mul_left}
+use Rattle.std.proofs.lemmas.List.Elements.{All-tail}
 use Rattle.wb_geometry.specs.Image.{Image}
 use Rattle.wb_geometry.specs.Device.{State}
 use Rattle.wb_geometry.specs.History.{HistoryEntry}
 use Rattle.wb_geometry.specs.Layout.{places}
 use Rattle.wb_geometry.specs.Line.{segment, line_of}
 use Rattle.wb_geometry.specs.declared.geometry.Geometry.{Geometry}
-use Rattle.wb_geometry.specs.declared.which.Which.{Which}
-use Rattle.wb_geometry.proofs.Geometries.{places_few}
 use Rattle.wb_header.specs.Segments.{Segment}
-use Rattle.wb_header.specs.Standing.{StandsFor}
-use Rattle.wb_engine.specs.Memory.{MemoryContent, live, segment_at}
-use Rattle.wb_engine.specs.Content.{EngineContent, IsEngine, IsInsideBacking, limit_of}
+use Rattle.wb_engine.specs.Memory.{MemoryContent, live}
+use Rattle.wb_engine.specs.Content.{EngineContent, IsEngine, IsInsideBacking}
 use Rattle.wb_engine.specs.Standing.{Standing, IsBackingImage}
-use Rattle.wb_engine.specs.Turning.{IsWaiting, begun, put_back}
+use Rattle.wb_engine.specs.Turning.{IsWaiting, put_back}
 use Rattle.wb_engine.specs.declared.numbers.Numbers.{Numbers}
 use Rattle.wb_engine.proofs.Held.{AreHeld, AreInTurn, turn_rest}
 use Rattle.wb_engine.proofs.Absorptions.{Takes}

@@ -1,6 +1,6 @@
 -- The open segment is filled with places that change nothing.
-use Rattle.std.proofs.Common.{ℕ, suc, zero, ◌≡◌, ◌≢◌, ◌+◌, ◌-◌, ◌*◌, ◌/◌, ◌%◌, ◌<◌, ◌≤◌, ◌^◌, List, [], ◌∷◌, ◌++◌, length, replicate, inl, inr, refl, ap, sym, ◌∙◌, subst, arith, append-nil, append_assoc}
-use Rattle.std.proofs.Math.Nat.{mul-suc, mul-le-mul_left, div-add-mod, mod-lt, mod_self, mod-eq_of_lt, div-eq_of_lt, add-mul-mod_self_left, add-mul-div_left}
+use Rattle.std.proofs.Common.{ℕ, suc, ◌≡◌, ◌+◌, ◌-◌, ◌*◌, ◌/◌, ◌%◌, ◌<◌, ◌≤◌, ◌^◌, List, [], ◌∷◌, ◌++◌, replicate, inl, inr, refl, ap, sym, ◌∙◌, subst, arith, append-nil, append_assoc}
+use Rattle.std.proofs.Math.Nat.{mul-suc, mul-le-mul_left, div-add-mod, mod_self, mod-eq_of_lt, div-eq_of_lt, add-mul-mod_self_left, add-mul-div_left}
 use Rattle.std.proofs.lemmas.Bool.{cases_lt}
 use Rattle.std.proofs.lemmas.List.{replicate-append-replicate}
 use Rattle.wb_geometry.specs.Image.{Image}
@@ -9,7 +9,6 @@ use Rattle.wb_geometry.specs.History.{HistoryEntry, Void}
 use Rattle.wb_geometry.specs.Layout.{places}
 use Rattle.wb_geometry.specs.declared.entry.Entry.TheVariants as entry
 use Rattle.wb_geometry.specs.declared.geometry.Geometry.{Geometry}
-use Rattle.wb_geometry.proofs.Geometries.{places_few}
 use Rattle.wb_engine.specs.Content.{EngineContent, IsEngine, limit_of}
 use Rattle.wb_engine.specs.Standing.{Standing, Told, IsSynced, IsOffDevices, MayCome, numbers_at}
 use Rattle.wb_engine.specs.declared.numbers.Numbers.{Numbers}

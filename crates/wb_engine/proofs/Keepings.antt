@@ -1,10 +1,9 @@
 -- An entry is kept in the open segment.
-use Rattle.std.proofs.Common.{ℕ, ◌≡◌, ◌⊎◌, ◌+◌, ◌*◌, ◌≤◌, List, [], ◌∷◌, ◌++◌, length, inl, inr, refl, arith}
+use Rattle.std.proofs.Common.{ℕ, ◌≡◌, ◌⊎◌, ◌+◌, ◌*◌, ◌≤◌, List, [], ◌∷◌, ◌++◌, inl, inr, refl, arith}
 use Rattle.std.specs.List.{All}
-use Rattle.wb_geometry.specs.History.{HistoryEntry, Write, Void}
 use Rattle.wb_geometry.specs.declared.entry.Entry.TheVariants as entry
 use Rattle.wb_header.specs.Text.{TextBlock}
-use Rattle.wb_header.specs.Standing.{StandsFor, numbers_of}
+use Rattle.wb_header.specs.Standing.{numbers_of}
 use Rattle.wb_header.proofs.Standings.{stands_void}
 use Rattle.wb_ram.specs.Merging.{IsMerged}
 use Rattle.wb_back.proofs.Added.{AreInside-added}

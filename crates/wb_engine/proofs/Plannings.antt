@@ -1,12 +1,11 @@
 -- The blocks of a segment come into a plan, one after another.
-use Rattle.std.proofs.Common.{ℕ, ◌≡◌, ◌⊎◌, ◌+◌, ◌*◌, ◌<◌, ◌≤◌, List, [], ◌++◌, ◌∷◌, length, take, refl, sym, ◌∙◌, ap, subst, arith}
-use Rattle.std.specs.List.{All}
+use Rattle.std.proofs.Common.{ℕ, ◌≡◌, ◌⊎◌, ◌+◌, ◌*◌, ◌<◌, ◌≤◌, List, [], ◌++◌, ◌∷◌, length, take, sym, ◌∙◌, ap, subst, arith}
 use Rattle.std.proofs.lemmas.List.Elements.{All-nil}
 use Rattle.wb_geometry.specs.History.{HistoryEntry, Write, later, last_write, written}
 use Rattle.wb_header.specs.Text.{TextBlock}
 use Rattle.wb_header.specs.Standing.{entry_of, entries_of, numbers_of, block_at}
 use Rattle.wb_back.specs.Plans.{PlanContent, AreInside}
-use Rattle.wb_back.proofs.Added.{WritesLast, Adds, WritesLast-none, WritesLast-more, length-added, AreInside-added}
+use Rattle.wb_back.proofs.Added.{WritesLast, WritesLast-none, WritesLast-more, length-added, AreInside-added}
 
 -- the first i blocks of a segment are in the plan
 pub record IsPlanning (segment : List TextBlock) (i room : ℕ) (plan : PlanContent) : Type 0 where

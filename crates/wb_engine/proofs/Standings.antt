@@ -1,17 +1,14 @@
 -- What an engine stands for, from one step to the next.
-use Rattle.std.proofs.Common.{ℕ, suc, zero, ◌≡◌, ◌≢◌, ◌⊎◌, ◌+◌, ◌-◌, ◌*◌, ◌/◌, ◌%◌, ◌<◌, ◌≤◌, List, [], ◌∷◌, ◌++◌, length, take, drop, replicate, Option, Some, None, inl, inr, refl, ap, sym, ◌∙◌, subst, arith, append-nil}
-use Rattle.std.specs.List.{flat_map, slice_index_or}
-use Rattle.std.proofs.Math.Nat.{mul-suc, mul-zero, div-add-mod, mod-lt}
-use Rattle.std.proofs.lemmas.Bool.{cases_lt}
-use Rattle.std.proofs.lemmas.List.{get_or_past}
+use Rattle.std.proofs.Common.{ℕ, suc, zero, ◌≡◌, ◌+◌, ◌-◌, ◌<◌, ◌≤◌, List, [], ◌∷◌, ◌++◌, length, replicate, Option, Some, None, inl, inr, refl, ap, sym, ◌∙◌, subst, arith}
+use Rattle.std.specs.List.{slice_index_or}
 use Rattle.wb_geometry.specs.Image.{Image, sector}
 use Rattle.wb_geometry.specs.History.{HistoryEntry, Void, put, written, after, later, last_write, standing, IsUnwritten, PutsPartly}
 use Rattle.wb_geometry.specs.Line.{Line, span, image, segment, line_of, Agrees}
 use Rattle.wb_geometry.proofs.Histories.{last_write-append, length-put, sector-put, length-after, sector-after, images_equal}
-use Rattle.wb_geometry.proofs.Lines.{span-split, span-one, span-same, unwritten-first, unwritten-second, image-all, image-between, segment-kept, segment-push, segment-none, Agrees-wider, Agrees-put}
+use Rattle.wb_geometry.proofs.Lines.{span-split, span-one, span-same, unwritten-first, unwritten-second, image-between, Agrees-wider, Agrees-put}
 use Rattle.wb_header.specs.Segments.{Segment}
 use Rattle.wb_header.specs.Standing.{StandsFor, entries_of}
-use Rattle.wb_engine.specs.Memory.{MemoryContent, live, segment_at, kept_entries}
+use Rattle.wb_engine.specs.Memory.{segment_at, kept_entries}
 use Rattle.wb_engine.specs.Standing.{IsBackingImage}
 use Rattle.wb_engine.specs.declared.numbers.Numbers.{Numbers}
 

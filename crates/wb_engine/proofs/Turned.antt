@@ -1,5 +1,5 @@
 -- A turn, from the plan of the oldest sealed segment to what the engine stands for behind it.
-use Rattle.std.proofs.Common.{ℕ, ◌≡◌, ◌+◌, ◌∙◌, ◌∷◌, [], ◌++◌, List, length, drop, Some, None, subst, sym, ap, refl, arith}
+use Rattle.std.proofs.Common.{ℕ, ◌≡◌, ◌+◌, ◌∙◌, ◌∷◌, [], ◌++◌, List, drop, None, subst, sym, ap, refl}
 use Rattle.wb_geometry.specs.Image.{Image}
 use Rattle.wb_geometry.specs.Device.{State, IsDevice, IsSameDevice, NothingPending, Passes, ContentPasses}
 use Rattle.wb_geometry.specs.History.{HistoryEntry, after, last_write, PutsPartly}
@@ -10,7 +10,7 @@ use Rattle.wb_header.specs.Segments.{Segment}
 use Rattle.wb_header.specs.Standing.{StandsFor, entries_of}
 use Rattle.wb_back.specs.Plans.{IsArranged}
 use Rattle.wb_back.proofs.Added.{WritesLast, AreDistinct-arranged, content-written, content-partly_written, crash-partly_written}
-use Rattle.wb_engine.specs.Memory.{MemoryContent, live}
+use Rattle.wb_engine.specs.Memory.{live}
 use Rattle.wb_engine.specs.Content.{EngineContent, IsEngine}
 use Rattle.wb_engine.specs.Standing.{Standing, line, Told, Left}
 use Rattle.wb_engine.specs.Turning.{begun, put_back, next_entries}

@@ -1,12 +1,12 @@
 -- A segment is written back, or was begun to be: what the engine stands for.
-use Rattle.std.proofs.Common.{ℕ, suc, zero, ◌≡◌, ◌⊎◌, ◌+◌, ◌-◌, ◌*◌, ◌<◌, ◌≤◌, List, [], ◌∷◌, ◌++◌, length, Bool, true, false, IsTrue, Option, Some, None, inl, inr, refl, ap, sym, ◌∙◌, subst, arith}
+use Rattle.std.proofs.Common.{ℕ, ◌≡◌, ◌≤◌, List, [], ◌∷◌, ◌++◌, Bool, true, false, refl, ap, sym, ◌∙◌, subst}
 use Rattle.wb_geometry.specs.Image.{Image}
 use Rattle.wb_geometry.specs.Device.{State, IsDevice, IsSameDevice, NothingPending, Passes, ContentPasses}
 use Rattle.wb_geometry.specs.History.{HistoryEntry, after, PutsPartly}
 use Rattle.wb_geometry.proofs.Moments.{moment_same}
 use Rattle.wb_header.specs.Segments.{Segment}
 use Rattle.wb_engine.specs.Memory.{MemoryContent, live}
-use Rattle.wb_engine.specs.Content.{EngineContent, IsOrdered}
+use Rattle.wb_engine.specs.Content.{EngineContent}
 use Rattle.wb_engine.specs.Standing.{Standing, line, Told, Left}
 use Rattle.wb_engine.specs.Turning.{begun, put_back, next_entries}
 use Rattle.wb_engine.proofs.Standings.{backing_image_begun, backing_image_put}

@@ -1,23 +1,20 @@
 -- The sealed segments are written back, one after another.
-use Rattle.std.proofs.Common.{ℕ, suc, zero, ◌≡◌, ◌≢◌, ◌⊎◌, ◌+◌, ◌-◌, ◌*◌, ◌<◌, ◌≤◌, List, [], ◌∷◌, ◌++◌, length, get_or, Contains, Option, Some, None, Ok, Err, Result, IfSome, inl, inr, refl, ap, sym, ◌∙◌, subst, arith}
+use Rattle.std.proofs.Common.{ℕ, ◌≡◌, ◌+◌, ◌≤◌, List, get_or, Contains, Option, Some, None, IfSome, inl, refl, ap, sym, ◌∙◌, subst, arith}
 use Rattle.std.specs.List.{All}
 use Rattle.std.proofs.lemmas.List.Elements.{Contains-get_or}
 use Rattle.wb_geometry.specs.Image.{Image}
-use Rattle.wb_geometry.specs.Device.{State, Rose, Passes, ContentPasses, NothingPending, IsSameDevice, CountsFaults, CountsFaultsWhere, HasCause}
-use Rattle.wb_geometry.specs.History.{HistoryEntry, after, PutsPartly}
+use Rattle.wb_geometry.specs.Device.{State, Rose, Passes, ContentPasses, IsSameDevice}
+use Rattle.wb_geometry.specs.History.{HistoryEntry, PutsPartly}
 use Rattle.wb_geometry.specs.Layout.{places}
-use Rattle.wb_geometry.specs.Line.{segment}
 use Rattle.wb_geometry.specs.declared.which.Which.{Which}
 use Rattle.wb_geometry.specs.declared.which.Which.TheVariants.{Backing}
 use Rattle.wb_geometry.proofs.Histories.{puts_then}
 use Rattle.wb_geometry.proofs.Moments.{passes_same, joined, content_same, content_joined, same_device, same_device_trans}
 use Rattle.wb_engine.specs.Content.{EngineContent, IsEngine}
 use Rattle.wb_engine.specs.Standing.{Standing, Told, IsSynced}
-use Rattle.wb_engine.specs.Turning.{IsWaiting, put_back, next_entries}
+use Rattle.wb_engine.specs.Turning.{put_back, next_entries}
 use Rattle.wb_engine.specs.Closing.{IsWrittenBack}
 use Rattle.wb_engine.specs.declared.numbers.Numbers.{Numbers}
-use Rattle.wb_engine.specs.declared.turning.Turn.{Turn}
-use Rattle.wb_engine.specs.declared.turning.Turn.TheVariants.{Backed, Idle}
 use Rattle.wb_engine.proofs.Closings.{segment-among}
 
 -- so many of them are written back, and no call failed

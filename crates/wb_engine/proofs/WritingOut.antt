@@ -1,14 +1,14 @@
 -- All that was absorbed is written back, the begun segment too.
 use Rattle.std.specs.Option.{is_some}
-use Rattle.std.proofs.Common.{true, false, ℕ, ◌≡◌, ◌⊎◌, ◌+◌, ◌-◌, ◌*◌, ◌/◌, ◌%◌, ◌<◌, ◌≤◌, List, [], ◌∷◌, ◌++◌, length, replicate, Option, Some, None, IfSome, inl, inr, refl, ap, sym, ◌∙◌, subst, arith}
+use Rattle.std.proofs.Common.{true, false, ℕ, ◌≡◌, ◌⊎◌, ◌%◌, List, ◌++◌, replicate, Option, Some, None, IfSome, inl, inr, refl, ap, sym, ◌∙◌, subst, arith}
 use Rattle.wb_geometry.specs.Image.{Image}
-use Rattle.wb_geometry.specs.Device.{State, Rose, Passes, ContentPasses, NothingPending, IsSameDevice, IsUncalled, CountsFaultsWhere}
+use Rattle.wb_geometry.specs.Device.{State, Passes, ContentPasses, NothingPending, IsSameDevice, IsUncalled, CountsFaultsWhere}
 use Rattle.wb_geometry.specs.History.{HistoryEntry, Void, after, PutsPartly}
 use Rattle.wb_geometry.specs.Layout.{places}
 use Rattle.wb_geometry.specs.declared.geometry.Geometry.{Geometry}
 use Rattle.wb_geometry.specs.declared.which.Which.{Which}
 use Rattle.wb_geometry.specs.declared.which.Which.TheVariants.{Backing}
-use Rattle.wb_geometry.proofs.Moments.{weaker, content_weaker, content_same, joined_same, content_kept_after, same_device_trans, later_rose, rose_later}
+use Rattle.wb_geometry.proofs.Moments.{weaker, content_weaker, content_same, joined_same, content_kept_after, same_device_trans, later_rose}
 use Rattle.wb_engine.specs.Content.{EngineContent, IsEngine}
 use Rattle.wb_engine.specs.Standing.{Standing, Told, IsSynced, IsOffDevices}
 use Rattle.wb_engine.specs.Closing.{IsWrittenBack, IsWrittenOut, IsFinished}

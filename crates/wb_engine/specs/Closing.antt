@@ -1,5 +1,5 @@
 -- What the end of an engine leaves.
-use Rattle.std.specs.Prelude.{ℕ, ◌≡◌, List, Some, None, IfSome}
+use Rattle.std.specs.Prelude.{◌≡◌, List, Some, None, IfSome}
 use Rattle.wb_geometry.specs.Image.{Image}
 use Rattle.wb_geometry.specs.Device.{State, Passes, ContentPasses, NothingPending, IsSameDevice, IsUncalled, CountsFaultsWhere}
 use Rattle.wb_geometry.specs.History.{HistoryEntry, after, PutsPartly}

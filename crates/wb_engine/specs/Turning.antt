@@ -2,7 +2,6 @@
 use Rattle.std.specs.Prelude.{ℕ, ◌+◌, ◌<◌, List}
 use Rattle.wb_geometry.specs.Image.{Image}
 use Rattle.wb_geometry.specs.History.{HistoryEntry}
-use Rattle.wb_geometry.specs.Line.{Line}
 use Rattle.wb_engine.specs.Content.{EngineContent}
 use Rattle.wb_engine.specs.Standing.{line}
 use Rattle.wb_engine.specs.declared.numbers.Numbers.{Numbers}

@@ -16,3 +16,6 @@ pub use engine::Engine;
 pub use numbers::Numbers;
 pub use opening::{OpenCause, OpenStop};
 pub use turning::Turn;
+
+#[cfg(test)]
+mod tests;

@@ -6,3 +6,6 @@ mod serving;
 mod writing;
 
 pub use serving::{ServeStop, Served, Session, serve_plain};
+
+#[cfg(test)]
+mod tests;

@@ -1,7 +1,6 @@
 -- What the bytes of a sector 0 say, and the causes to refuse them.
 use Rattle.std.proofs.Common.{◌≡◌, ◌⊎◌, ℕ, zero, suc, ◌+◌, ◌-◌, ◌*◌, ◌/◌, ◌^◌, ◌<◌, ◌≤◌, List, [], ◌∷◌, ◌++◌, length, get_or, take, drop, Option, Some, None, refl, sym, ap, ◌∙◌, subst, inl, inr, arith, length-drop}
 use Rattle.std.specs.Prelude.{IfSome}
-use Rattle.std.proofs.Props.{props}
 use Rattle.std.specs.List.{All}
 use Rattle.std.proofs.lemmas.List.Elements.{All-get_or, All-take, All-drop}
 use Rattle.std.specs.Int.{w32, w64, from_le_bytes, to_le_bytes}
@@ -12,7 +11,6 @@ use Rattle.std.proofs.lemmas.Nat.{le_bytes_4, le_bytes_8, from_le_bytes-to_le_by
 use Rattle.wb_geometry.specs.Image.{Image, sector, bytes_at}
 use Rattle.wb_geometry.specs.Layout.{log_sectors}
 use Rattle.wb_geometry.specs.Device.{State, IsDevice, HoldsContent, OnlyRead}
-use Rattle.wb_geometry.specs.Geometry.{IsOrder, IsSlots, IsRam, IsBacking}
 use Rattle.wb_geometry.specs.declared.geometry.Geometry.{Geometry}
 use Rattle.wb_geometry.proofs.Geometries.{same_numbers}
 use Rattle.wb_geometry.proofs.Histories.{bytes_at-one}

@@ -1,5 +1,5 @@
 -- What formatting makes of an image.
-use Rattle.std.specs.Prelude.{ℕ, ◌≡◌, ◌⊎◌, ◌+◌, ◌<◌, List, ◌++◌, replicate}
+use Rattle.std.specs.Prelude.{ℕ, ◌≡◌, ◌⊎◌, ◌<◌, List, ◌++◌, replicate}
 use Rattle.wb_geometry.specs.Image.{Image, sector, IsSameBut}
 use Rattle.wb_geometry.specs.Layout.{slot_at}
 use Rattle.wb_geometry.specs.declared.geometry.Geometry.{Geometry}

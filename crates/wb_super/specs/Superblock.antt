@@ -1,6 +1,6 @@
 -- What a log image says of itself (docs/FORMAT.md): the superblock in sector 0, the record in sector 2047, and the first
 -- field of each slot.
-use Rattle.std.specs.Prelude.{ℕ, ◌≡◌, ◌+◌, ◌≤◌, List, ◌++◌, length, take, drop, replicate, codes}
+use Rattle.std.specs.Prelude.{ℕ, ◌≡◌, ◌≤◌, List, ◌++◌, length, take, drop, replicate, codes}
 use Rattle.std.specs.Int.{w32, w64, from_le_bytes, to_le_bytes}
 use Rattle.wb_geometry.specs.Image.{Image, sector}
 use Rattle.wb_geometry.specs.Layout.{slot_at, log_sectors}

@@ -1,4 +1,4 @@
-use Rattle.std.proofs.Common.{subst, sym, arith}
+use Rattle.std.proofs.Common.{subst, sym}
 use Rattle.wb_geometry.specs.declared.entry.Entry.{Entry}
 use Rattle.wb_geometry.specs.declared.entry.Entry.TheVariants as entry
 use Rattle.wb_engine.specs.Standing.{Keeps}

@@ -1,4 +1,4 @@
-use Rattle.std.proofs.Common.{◌≡◌, ◌+◌, ℕ, subst, sym}
+use Rattle.std.proofs.Common.{◌+◌, ℕ, subst, sym}
 use Rattle.std.proofs.Math.Facts.{Fits-of_lt}
 use Rattle.wb_engine.specs.Standing.{MayCome, IsSealedIfFull}
 use Rattle.wb_engine.proofs.Absorbed.{engine_absorbed, numbers_absorbed, standing_absorbed, absorbed_fits, current_fits}

@@ -1,7 +1,6 @@
-use Rattle.std.proofs.Common.{◌≡◌, ◌∙◌, None, Some, subst, sym}
+use Rattle.std.proofs.Common.{◌∙◌, subst, sym}
 use Rattle.wb_geometry.specs.History.{PutsPartly}
-use Rattle.wb_geometry.specs.Device.{Passes, ContentPasses, NothingPending, IsSameDevice, CountsFaultsWhere}
-use Rattle.wb_geometry.specs.declared.which.Which.TheVariants.{Backing}
+use Rattle.wb_geometry.specs.Device.{Passes, ContentPasses, NothingPending}
 use Rattle.wb_engine.specs.Standing.{Told}
 use Rattle.wb_engine.proofs.WritingOut.{finished_content, finished_changed, finished_crash, finished_durable, finished_reads, finished_log, finished_same, finished_was_down}
 use Rattle.wb_engine.proofs.engine.Engine.close.Goals as goal

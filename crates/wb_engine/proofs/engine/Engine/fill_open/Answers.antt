@@ -1,7 +1,7 @@
-use Rattle.std.proofs.Common.{◌≡◌, ◌+◌, ◌-◌, ◌%◌, ◌∙◌, ◌++◌, ◌≤◌, ℕ, List, [], subst, sym, ap, refl, arith, replicate}
-use Rattle.wb_geometry.specs.History.{HistoryEntry, Void}
+use Rattle.std.proofs.Common.{◌≡◌, ◌+◌, ◌-◌, ◌%◌, ◌∙◌, ◌++◌, ◌≤◌, ℕ, subst, sym, ap, arith, replicate}
+use Rattle.wb_geometry.specs.History.{Void}
 use Rattle.wb_geometry.specs.Layout.{places}
-use Rattle.wb_engine.specs.Content.{EngineContent, IsEngine}
+use Rattle.wb_engine.specs.Content.{IsEngine}
 use Rattle.wb_engine.specs.Standing.{Standing, Told, IsSynced}
 use Rattle.wb_engine.proofs.Filling.{IsFilling, filling_none, filling_comes, filling_more, full_rest}
 use Rattle.wb_engine.proofs.engine.Engine.fill_open.Goals as goal

@@ -1,5 +1,5 @@
 use Rattle.std.proofs.Common.{◌≡◌, subst, sym}
-use Rattle.wb_engine.specs.Content.{EngineContent, IsEngine}
+use Rattle.wb_engine.specs.Content.{IsEngine}
 use Rattle.wb_engine.specs.Turning.{IsWaiting}
 use Rattle.wb_engine.specs.declared.numbers.Numbers.{Numbers}
 use Rattle.wb_engine.proofs.Engines.{engine_put_back}

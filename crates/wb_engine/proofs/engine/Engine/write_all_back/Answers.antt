@@ -1,5 +1,5 @@
-use Rattle.std.proofs.Common.{◌≡◌, ◌+◌, ◌-◌, ◌<◌, ◌≤◌, ℕ, subst, sym, ap, Ok, arith}
-use Rattle.wb_engine.specs.Content.{EngineContent, IsEngine}
+use Rattle.std.proofs.Common.{◌≡◌, ◌+◌, ◌-◌, ◌<◌, subst, ap, Ok, arith}
+use Rattle.wb_engine.specs.Content.{IsEngine}
 use Rattle.wb_engine.specs.declared.numbers.Numbers.{Numbers}
 use Rattle.wb_engine.proofs.WritingBack.{IsWriting, IsTurned, writing_none, writing_more, writing_done, writing_stopped}
 use Rattle.wb_engine.proofs.engine.Engine.write_all_back.Goals as goal

@@ -1,7 +1,5 @@
-use Rattle.std.proofs.Common.{◌≡◌, ◌∙◌, ◌++◌, replicate, None, Some, true, false, not, Bool, Option, subst, sym, ap, refl}
-use Rattle.std.specs.Option.{is_some}
+use Rattle.std.proofs.Common.{◌≡◌, ◌∙◌, ◌++◌, replicate, None, not, subst, sym, ap}
 use Rattle.wb_geometry.specs.History.{Void}
-use Rattle.wb_geometry.specs.declared.which.Which.{Which}
 use Rattle.wb_engine.specs.Content.{IsEngine}
 use Rattle.wb_engine.specs.Standing.{Standing, Told, IsSynced}
 use Rattle.wb_engine.specs.Closing.{IsWrittenBack}
