@@ -149,8 +149,10 @@ number_of_front size j bytes inside = ap (λ (xs : List ℕ). from_le_bytes w64 
 pub bits_of_front : (size j : ℕ) (bytes : List ℕ) → 528 + 16 * j ≤ size → bits_in (take size bytes) j ≡ bits_in bytes j
 bits_of_front size j bytes inside = get_or-take size bytes (520 + 16 * j) 0 (omega arith)
 
-place_of_front : (size count at : ℕ) (bytes : List ℕ) → 4096 * (1 + count) ≤ size → IsZeroPlace count (take size bytes) at → IsZeroPlace count bytes at × (at < size)
-place_of_front size count at bytes room place = elim place [
+-- where bytes have zeros, others of the same bits have them
+pub place_kept : (size count at : ℕ) (bytes others : List ℕ) → 4096 * (1 + count) ≤ size → ((j : ℕ) → j < count → bits_in others j ≡ bits_in bytes j)
+    → IsZeroPlace count bytes at → IsZeroPlace count others at × (at < size)
+place_kept size count at bytes others room same place = elim place [
   | inl front ↦ (inl front, omega (arith, front))
   | inr rest ↦ elim rest [
     | inl entry ↦ (inr (inl entry), omega (arith, entry.1, entry.3))
@@ -162,7 +164,7 @@ place_of_front size count at bytes room place = elim place [
           block.1,
           block.2,
           block.3,
-          λ set. block.4 (ap (λ (n : ℕ). bit_at n ((at - 4096 * (block.0 + 1)) / 512)) (bits_of_front size block.0 bytes (omega (arith, block.1))) ∙ set),
+          λ set. block.4 (ap (λ (n : ℕ). bit_at n ((at - 4096 * (block.0 + 1)) / 512)) (sym (same block.0 block.1)) ∙ set),
         ))),
         omega (arith, block.1, block.3),
       )
@@ -217,7 +219,7 @@ text_from room limit id size bytes is fits are good summed =
           good.1 j (omega (arith, same)) (i, before, numbers);
       zeros = λ at place.
           let count : length (blocks_in (length_in front) front) ≡ length_in bytes = counted ∙ same in
-          let there = place_of_front size (length_in bytes) at bytes (omega (arith, is)) (subst (λ (n : ℕ). IsZeroPlace n front at) count place) in
+          let there = place_kept size (length_in bytes) at front bytes (omega (arith, is)) (λ j below. sym (bits_of_front size j bytes (omega (arith, is, below)))) (subst (λ (n : ℕ). IsZeroPlace n front at) count place) in
           get_or-take size bytes at 0 there.1 ∙ good.0.0.1 at there.0;
     }
 

@@ -1,6 +1,6 @@
 -- Bytes are the text of one segment, a text has no cause to be refused, and a segment has one spelling.
 use Rattle.std.proofs.Common.{ℕ, ◌≡◌, ◌≢◌, ◌+◌, ◌-◌, ◌*◌, ◌/◌, ◌<◌, ◌≤◌, List, ◌++◌, length, get_or, take, drop, replicate, refl, sym, ap, subst, ◌∙◌, inl, inr, arith, length-drop}
-use Rattle.std.specs.Int.{w32, w64, from_le_bytes, bit_at}
+use Rattle.std.specs.Int.{w32, w64, from_le_bytes}
 use Rattle.std.proofs.lemmas.Bool.{cases_lt}
 use Rattle.std.proofs.lemmas.List.{ext_get_or, get_or-take, get_or-drop, take-take, length-take-le, get_or_past}
 use Rattle.std.proofs.lemmas.Nat.{le_bytes_4, le_bytes_8}
@@ -9,7 +9,7 @@ use Rattle.wb_header.specs.Text.{TextBlock, IsText, IsZeroPlace, no_block, id_in
 use Rattle.wb_header.specs.Refused.{Refuses, front_of}
 use Rattle.wb_header.specs.declared.checking.Refused.{Refused}
 use Rattle.wb_header.specs.declared.checking.Refused.TheVariants as refused
-use Rattle.wb_header.proofs.Checkings.{piece_of_front, number_of_front, bits_of_front, block_at}
+use Rattle.wb_header.proofs.Checkings.{piece_of_front, number_of_front, bits_of_front, place_kept, block_at}
 
 -- ---- one segment
 
@@ -44,27 +44,6 @@ block_of_text : (room limit id : ℕ) (bytes : List ℕ) (blocks : List TextBloc
 block_of_text room limit id bytes blocks text k below =
     ap (λ (xs : List TextBlock). get_or xs k no_block) text.listed ∙ block_at (length blocks) bytes k no_block below
 
-place_in_front : (size count at : ℕ) (bytes : List ℕ) → 4096 * (1 + count) ≤ size → IsZeroPlace count bytes at → IsZeroPlace count (take size bytes) at × (at < size)
-place_in_front size count at bytes room place = elim place [
-  | inl front ↦ (inl front, omega (arith, front))
-  | inr rest ↦ elim rest [
-    | inl entry ↦ (inr (inl entry), omega (arith, entry.1, entry.3))
-    | inr more ↦ elim more [
-      | inl tail ↦ (inr (inr (inl tail)), omega (arith, tail))
-      | inr block ↦ (
-        inr (inr (inr (
-          block.0,
-          block.1,
-          block.2,
-          block.3,
-          λ set. block.4 (ap (λ (n : ℕ). bit_at n ((at - 4096 * (block.0 + 1)) / 512)) (sym (bits_of_front size block.0 bytes (omega (arith, block.1)))) ∙ set),
-        ))),
-        omega (arith, block.1, block.3),
-      )
-    ]
-  ]
-]
-
 pub accepted : (room limit id : ℕ) (bytes : List ℕ) (blocks : List TextBlock) (refused : Refused)
     → IsText room limit (front_of bytes) id blocks → Refuses room limit id bytes refused → ⊥
 accepted room limit id bytes blocks why text refuses = by_cause why refuses
@@ -94,7 +73,7 @@ accepted room limit id bytes blocks why text refuses = by_cause why refuses
           | inr many ↦ omega (arith, is, text.few)
         ]
     by_cause (refused.Zeros at) told =
-        let there = place_in_front (4096 * (1 + length_in bytes)) (length_in bytes) at bytes (omega arith) told.1 in
+        let there = place_kept (4096 * (1 + length_in bytes)) (length_in bytes) at bytes (front_of bytes) (omega arith) (λ j below. bits_of_front (4096 * (1 + length_in bytes)) j bytes (omega (arith, below))) told.1 in
         let zero : get_or (front_of bytes) at 0 ≡ 0 = text.zeros at (subst (λ (n : ℕ). IsZeroPlace n (front_of bytes) at) same_count there.0) in
         told.2 (sym (get_or-take (4096 * (1 + length_in bytes)) bytes at 0 there.1) ∙ zero)
     by_cause (refused.Entry index) told =

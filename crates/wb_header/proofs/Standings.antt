@@ -48,23 +48,27 @@ AreDistinct-same old new same distinct = λ i j less below is.
     number_same : (j : ℕ) → (block_at new j).number ≡ (block_at old j).number
     number_same j = number_at new j ∙ ap (λ (ns : List ℕ). get_or ns j 0) same ∙ sym (number_at old j)
 
+-- one block more, of this number
+module _ (old new : List TextBlock) (number : ℕ) (added : numbers_of new ≡ numbers_of old ++ number ∷ []) where
+  length-added : length new ≡ length old + 1
+  length-added = sym (length-numbers_of new) ∙ ap length added ∙ length_push (numbers_of old) number ∙ ap (λ (n : ℕ). n + 1) (length-numbers_of old)
+
+  number-added_before : (j : ℕ) → j < length old → (block_at new j).number ≡ (block_at old j).number
+  number-added_before j below =
+      number_at new j ∙ ap (λ (ns : List ℕ). get_or ns j 0) added
+      ∙ get_or_append_left (numbers_of old) (number ∷ []) 0 j (omega (arith, length-numbers_of old)) ∙ sym (number_at old j)
+
+  number-added_last : (j : ℕ) → j ≡ length old → (block_at new j).number ≡ number
+  number-added_last j is = number_at new j ∙ ap (λ (ns : List ℕ). get_or ns j 0) added ∙ get_or_push (numbers_of old) number 0 j (length-numbers_of old ∙ sym is)
+
 -- so are they with one more whose number none of them has
 pub AreDistinct-added : (old new : List TextBlock) (number : ℕ) → numbers_of new ≡ numbers_of old ++ number ∷ [] → (Contains (numbers_of old) number → ⊥) → AreDistinct old → AreDistinct new
 AreDistinct-added old new number added absent distinct = λ i j less below is. elim (cases_lt j (length old)) [
-  | inl inside ↦ distinct i j less inside (sym (number_same i (omega arith)) ∙ is ∙ number_same j inside)
-  | inr from ↦ absent (Contains-number old i number (omega (arith, count)) (sym (number_same i (omega (arith, count))) ∙ is ∙ number_last j (omega (arith, count))))
+  | inl inside ↦ distinct i j less inside (sym (number-added_before old new number added i (omega arith)) ∙ is ∙ number-added_before old new number added j inside)
+  | inr from ↦
+      let count = length-added old new number added in
+      absent (Contains-number old i number (omega (arith, count)) (sym (number-added_before old new number added i (omega (arith, count))) ∙ is ∙ number-added_last old new number added j (omega (arith, count))))
 ]
-  where
-    count : length new ≡ length old + 1
-    count = sym (length-numbers_of new) ∙ ap length added ∙ length_push (numbers_of old) number ∙ ap (λ (n : ℕ). n + 1) (length-numbers_of old)
-
-    number_same : (j : ℕ) → j < length old → (block_at new j).number ≡ (block_at old j).number
-    number_same j below =
-        number_at new j ∙ ap (λ (ns : List ℕ). get_or ns j 0) added
-        ∙ get_or_append_left (numbers_of old) (number ∷ []) 0 j (omega (arith, length-numbers_of old)) ∙ sym (number_at old j)
-
-    number_last : (j : ℕ) → j ≡ length old → (block_at new j).number ≡ number
-    number_last j is = number_at new j ∙ ap (λ (ns : List ℕ). get_or ns j 0) added ∙ get_or_push (numbers_of old) number 0 j (length-numbers_of old ∙ sym is)
 
 -- of distinct blocks, those of one number are one
 pub AreDistinct-one : (blocks : List TextBlock) (i j : ℕ) → AreDistinct blocks → i < length blocks → j < length blocks → (block_at blocks i).number ≡ (block_at blocks j).number → i ≡ j
@@ -329,11 +333,13 @@ stands_added old new entries client number bits payload before added absent last
   each = λ k. last k ∙ ap (λ (o : Option (List ℕ)). later o (written k (Write client number bits payload))) (before.each k) ∙ sym (last_write_push k entries (Write client number bits payload));
   some = λ j below. elim (cases_lt j (length old)) [
     | inl inside ↦ omega (arith, kept j inside, before.some j inside, length_one_more entries (Write client number bits payload))
-    | inr from ↦ omega (arith, first_last j (omega (arith, count)), length_one_more entries (Write client number bits payload))
+    | inr from ↦ omega (arith, first_last j (omega (arith, length-added old new number added)), length_one_more entries (Write client number bits payload))
   ];
   order = λ i j less below. elim (cases_lt j (length old)) [
     | inl inside ↦ omega (arith, kept i (omega arith), kept j inside, before.order i j less inside)
-    | inr from ↦ omega (arith, kept i (omega (arith, count)), before.some i (omega (arith, count)), first_last j (omega (arith, count)))
+    | inr from ↦
+        let count = length-added old new number added in
+        omega (arith, kept i (omega (arith, count)), before.some i (omega (arith, count)), first_last j (omega (arith, count)))
   ];
   listed = λ n less. elim (named_after n client number bits payload entries less) [
     | inl inside ↦ subst (λ (ns : List ℕ). Contains ns n) (sym added) (Contains-append_left (numbers_of old) (number ∷ []) n (before.listed n inside))
@@ -341,20 +347,9 @@ stands_added old new entries client number bits payload before added absent last
   ];
 }
   where
-    count : length new ≡ length old + 1
-    count = sym (length-numbers_of new) ∙ ap length added ∙ length_push (numbers_of old) number ∙ ap (λ (n : ℕ). n + 1) (length-numbers_of old)
-
-    number_same : (j : ℕ) → j < length old → (block_at new j).number ≡ (block_at old j).number
-    number_same j below =
-        number_at new j ∙ ap (λ (ns : List ℕ). get_or ns j 0) added
-        ∙ get_or_append_left (numbers_of old) (number ∷ []) 0 j (omega (arith, length-numbers_of old)) ∙ sym (number_at old j)
-
-    number_last : (j : ℕ) → j ≡ length old → (block_at new j).number ≡ number
-    number_last j is = number_at new j ∙ ap (λ (ns : List ℕ). get_or ns j 0) added ∙ get_or_push (numbers_of old) number 0 j (length-numbers_of old ∙ sym is)
-
     kept : (j : ℕ) → j < length old → first_at (block_at new j).number (entries ++ Write client number bits payload ∷ []) ≡ first_at (block_at old j).number entries
     kept j below =
-        ap (λ (n : ℕ). first_at n (entries ++ Write client number bits payload ∷ [])) (number_same j below)
+        ap (λ (n : ℕ). first_at n (entries ++ Write client number bits payload ∷ [])) (number-added_before old new number added j below)
         ∙ first_at_inside (block_at old j).number entries (Write client number bits payload ∷ []) (before.some j below)
 
     unnamed : length entries ≤ first_at number entries
@@ -365,7 +360,7 @@ stands_added old new entries client number bits payload before added absent last
 
     first_last : (j : ℕ) → j ≡ length old → first_at (block_at new j).number (entries ++ Write client number bits payload ∷ []) ≡ length entries
     first_last j is =
-        ap (λ (n : ℕ). first_at n (entries ++ Write client number bits payload ∷ [])) (number_last j is)
+        ap (λ (n : ℕ). first_at n (entries ++ Write client number bits payload ∷ [])) (number-added_last old new number added j is)
         ∙ first_at_behind number entries (Write client number bits payload ∷ []) unnamed
         ∙ ap (λ (n : ℕ). length entries + n) (first_at_here number client bits payload [])
         ∙ omega arith

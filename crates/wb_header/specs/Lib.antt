@@ -4,3 +4,4 @@ pub mod Standing
 pub mod Writing
 pub mod Refused
 pub mod Firsts
+pub mod Slots

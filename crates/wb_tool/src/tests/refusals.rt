@@ -1,6 +1,7 @@
 //! Tests of runs in which no session begins.
 use super::{SECTOR_BYTES, empty_log, filled, text_of, words_of};
-use crate::run_single;
+use crate::opening::refuse_change;
+use crate::{run_single, status};
 use std::alloc::Global;
 use std::test::Fail;
 use wb_device::{MemorySink, MemorySource, SteadyDevice};
@@ -238,5 +239,14 @@ fn no_small_device_is_formatted(rt: HostRuntime) -> Result<(), Fail> {
         assert_eq!(rt; refused.text.as_str(), text.as_str());
         assert!(rt; refused.clean, "at {why}");
     }
+    Ok(())
+}
+
+// No device in memory changes between the two readings of its superblock, so no run of these tests ends so.
+#[test]
+fn a_log_that_changed_is_told(rt: HostRuntime) -> Result<(), Fail> {
+    let mut sink = MemorySink::new(rt.alloc(), None);
+    assert_eq!(rt; refuse_change(rt.alloc(), &mut sink, 64, 56), status::IMAGE);
+    assert_eq!(rt; text_of(&sink)?, "wblog: log image: changed 64 56\n");
     Ok(())
 }

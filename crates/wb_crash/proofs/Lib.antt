@@ -1,0 +1,12 @@
+pub mod Texts
+pub mod Recover
+pub mod Chains
+pub mod SlotPlaces
+pub mod Logs
+pub mod Backs
+pub mod Steps
+pub mod Crash
+pub mod Lines
+pub mod Again
+pub mod Recovering
+pub mod Reading

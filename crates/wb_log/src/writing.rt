@@ -1,0 +1,34 @@
+//! The writing of a segment into its slot.
+ghost use Rattle.std.specs.Prelude.{◌≡◌, ◌≤◌, ◌+◌, ◌*◌, All, length};
+ghost use Rattle.wb_geometry.specs.Layout.{places, slot_sectors, log_sectors};
+ghost use Rattle.wb_geometry.specs.Device.{IsSameDevice, HasCause};
+ghost use Rattle.wb_log.specs.Writing.{WritesSegment};
+
+use wb_device::{Device, DeviceFault};
+use wb_geometry::Geometry;
+use wb_header::{Sealed, encode};
+
+/// Writes the text of a segment into its slot, by one write. `scratch` has the bytes of a slot, of which the front holds
+/// the text then. After an `Err` each sector of the text has its former or its new content. No other sector changes.
+pub fn write_segment<L: Device>(
+    log: &mut L,
+    g: &Geometry,
+    segment: &Sealed,
+    scratch: &mut [u8],
+) -> Result<(), DeviceFault>
+    requires fits { length segment.now.blocks ≤ places g.now }
+    requires scratch { length scratch.old ≡ 512 * slot_sectors g.now }
+    requires room { log_sectors g.now ≤ (L.state log.old).sectors }
+    ensures written { All (λ block. 8 * block.number + 8 ≤ g.now.backing_sectors) segment.now.blocks
+        → WritesSegment g.now segment.now.id segment.now.blocks (L.state log.old) (L.state log.new) result }
+    ensures scratch { length scratch.new ≡ length scratch.old }
+    ensures reads { (L.state log.new).reads ≡ (L.state log.old).reads }
+    ensures syncs { (L.state log.new).syncs ≡ (L.state log.old).syncs }
+    ensures same { IsSameDevice (L.state log.old) (L.state log.new) }
+    ensures cause { HasCause (L.state log.old) (L.state log.new) result }
+{
+    let size = encode(segment, scratch);
+    // A segment has a block at least, and ids begin at 1.
+    prove!(segment.len() > 0);
+    log.write(g.slot_start(segment.id()), &scratch[..size])
+}
