@@ -1,4 +1,3 @@
 pub mod Added
 pub mod Planning
-pub mod Runs
 pub mod Writing

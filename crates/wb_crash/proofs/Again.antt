@@ -20,7 +20,8 @@ use Rattle.wb_crash.specs.Crash.{WritesAlike}
 use Rattle.wb_crash.specs.declared.numbers.Numbers.{Numbers}
 use Rattle.wb_crash.proofs.Chains.{run_none}
 use Rattle.wb_crash.proofs.Recover.{one_recovered}
-use Rattle.wb_crash.proofs.Texts.{some_sector, first_stands, header_of_text, slot_below}
+use Rattle.wb_crash.proofs.Texts.{some_sector, first_stands, header_of_text}
+use Rattle.wb_geometry.proofs.Slots.{slot_below}
 use Rattle.wb_crash.proofs.Backs.{kept_unwritten}
 use Rattle.wb_crash.proofs.Logs.{super_kept, others_kept, id_kept}
 

@@ -1,10 +1,11 @@
 pub mod Texts
 pub mod Recover
 pub mod Chains
-pub mod SlotPlaces
 pub mod Logs
 pub mod Backs
+pub mod Shown
 pub mod Steps
+pub mod Halves
 pub mod Crash
 pub mod Lines
 pub mod Again

@@ -10,8 +10,9 @@ use Rattle.wb_geometry.proofs.Lines.{span-same, segment-kept}
 use Rattle.wb_header.specs.Slots.{IsTextOf}
 use Rattle.wb_crash.specs.Images.{IsOrdered, HoldsSegment, BeginsSegment, IsLogImage, IsBackingImage}
 use Rattle.wb_crash.specs.Numbers.{all_at}
-use Rattle.wb_crash.specs.Safety.{IsSafe, IsSameUpTo, IsFresh}
+use Rattle.wb_crash.specs.Safety.{IsLogSafe, IsBackingSafe, IsSafe, IsSameUpTo, IsFresh}
 use Rattle.wb_crash.specs.declared.numbers.Numbers.{Numbers}
+use Rattle.wb_crash.proofs.Shown.{shown_content}
 
 -- ---- the first engine
 
@@ -49,17 +50,24 @@ backs_all line n y start is = record {
   };
 }
 
+log_opened : {g : Geometry} {line : Line} {log : State} (n : ℕ) → NothingPending log → ((x : Image) → log.content ≡ Some x → IsFresh g n x) → IsLogSafe g line (all_at n) log
+log_opened {g} {line} n nothing fresh = record {
+  logged = λ x told s low high. absurd (omega (arith, low, high));
+  shown = λ x shows. log_all g line n x (fresh x (shown_content nothing x shows));
+}
+
+backing_opened : {line : Line} {backing : State} (n : ℕ) → line.first ≡ n → NothingPending backing → ((y : Image) → backing.content ≡ Some y → y ≡ line.base)
+    → IsBackingSafe line (all_at n) backing
+backing_opened {line} n start nothing base = record { shown = λ y shows. backs_all line n y start (base y (shown_content nothing y shows)) }
+
 -- Nothing is pending, the log's content has that record and no later id, and the backing device's is the image at the start.
 pub opened : {g : Geometry} {line : Line} {log backing : State} (n : ℕ) → n ≤ 2 ^ 48 → line.first ≡ n → NothingPending log → NothingPending backing
     → ((x : Image) → log.content ≡ Some x → IsFresh g n x) → ((y : Image) → backing.content ≡ Some y → y ≡ line.base) → IsSafe g line (all_at n) log backing
-opened {g} {line} {log} {backing} n few start nothing none fresh base = record {
+opened {g} n few start nothing none fresh base = record {
   ordered = ordered_all g n few;
   start = start;
-  logged = λ x told s low high. absurd (omega (arith, low, high));
-  log_content = λ x told. log_all g line n x (fresh x told);
-  log_left = λ x left. log_all g line n x (fresh x (nothing.only x left));
-  backing_content = λ y told. backs_all line n y start (base y told);
-  backing_left = λ y left. backs_all line n y start (base y (none.only y left));
+  on_log = log_opened n nothing fresh;
+  on_backing = backing_opened n start none base;
 }
 
 -- ---- along a line
@@ -111,17 +119,23 @@ backs_along g a b e y start ordered same backs = record {
       (backs.agrees r low high);
 }
 
+log_safe_along : {g : Geometry} {a b : Line} {e : Numbers} {log : State} → a.first ≡ e.first → IsOrdered g e → IsSameUpTo e.tried a b → IsLogSafe g a e log → IsLogSafe g b e log
+log_safe_along {g} {a} {b} {e} start ordered same safe = record {
+  logged = λ x told s low high.
+      segment_along g a b x s (same.list s (omega (arith, low, start, ordered.start)) (omega (arith, high, ordered.logged))) (safe.logged x told s low high);
+  shown = λ x shows. log_along g a b e x start ordered same (safe.shown x shows);
+}
+
+backing_safe_along : {g : Geometry} {a b : Line} {e : Numbers} {backing : State} → a.first ≡ e.first → IsOrdered g e → IsSameUpTo e.tried a b → IsBackingSafe a e backing → IsBackingSafe b e backing
+backing_safe_along {g} {a} {b} {e} start ordered same safe = record { shown = λ y shows. backs_along g a b e y start ordered same (safe.shown y shows) }
+
 -- an engine is safe over any line that has the same segments up to the last that was begun
 pub engine_along : {g : Geometry} {a b : Line} {e : Numbers} {log backing : State} → IsSameUpTo e.tried a b → IsSafe g a e log backing → IsSafe g b e log backing
-engine_along {g} {a} {b} {e} {log} {backing} same safe = record {
+engine_along same safe = record {
   ordered = safe.ordered;
   start = same.start ∙ safe.start;
-  logged = λ x told s low high.
-      segment_along g a b x s (same.list s (omega (arith, low, safe.start, safe.ordered.start)) (omega (arith, high, safe.ordered.logged))) (safe.logged x told s low high);
-  log_content = λ x told. log_along g a b e x safe.start safe.ordered same (safe.log_content x told);
-  log_left = λ x left. log_along g a b e x safe.start safe.ordered same (safe.log_left x left);
-  backing_content = λ y told. backs_along g a b e y safe.start safe.ordered same (safe.backing_content y told);
-  backing_left = λ y left. backs_along g a b e y safe.start safe.ordered same (safe.backing_left y left);
+  on_log = log_safe_along safe.start safe.ordered same safe.on_log;
+  on_backing = backing_safe_along safe.start safe.ordered same safe.on_backing;
 }
 
 -- a history that grows keeps its full segments

@@ -14,8 +14,9 @@ use Rattle.wb_crash.specs.Images.{IsOrdered, HoldsSegment, BeginsSegment, IsLogI
 use Rattle.wb_crash.specs.Crash.{IsNextText}
 use Rattle.wb_crash.specs.Numbers.{trying, written, synced, put_up_to, recording}
 use Rattle.wb_crash.specs.declared.numbers.Numbers.{Numbers}
-use Rattle.wb_crash.proofs.Texts.{some_sector, header_of_text, slot_below}
-use Rattle.wb_crash.proofs.SlotPlaces.{text_fits, elsewhere, slots_differ, slot_inside}
+use Rattle.wb_crash.proofs.Texts.{some_sector, header_of_text}
+use Rattle.wb_geometry.proofs.Slots.{slot_below, elsewhere, slots_differ, slot_inside}
+use Rattle.wb_header.proofs.SlotTexts.{text_fits}
 
 -- ---- a write of the next segment's text
 

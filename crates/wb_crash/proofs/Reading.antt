@@ -12,7 +12,8 @@ use Rattle.wb_header.specs.Slots.{IsSegmentText, HoldsText}
 use Rattle.wb_header.specs.declared.checking.Refused.{Refused}
 use Rattle.wb_header.proofs.Spellings.{accepted}
 use Rattle.wb_crash.proofs.Texts.{front_is}
-use Rattle.wb_crash.proofs.SlotPlaces.{slot_blocks, text_fits, slot_inside}
+use Rattle.wb_geometry.proofs.Slots.{slot_blocks, slot_inside}
+use Rattle.wb_header.proofs.SlotTexts.{text_fits}
 
 -- bytes that are a text are so in sectors
 pub text_of_bytes : (g : Geometry) (bytes : List ℕ) (id : ℕ) (blocks : List TextBlock) → IsText (places g) (g.backing_sectors / 8) bytes id blocks → IsSegmentText g (sectors_of bytes) id blocks

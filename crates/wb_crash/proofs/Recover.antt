@@ -18,7 +18,8 @@ use Rattle.wb_super.specs.Superblock.{record_of, header_id}
 use Rattle.wb_crash.specs.Chain.{member, IsChain, IsRecovered, SumHolds}
 use Rattle.wb_crash.specs.Images.{IsOrdered, HoldsSegment, BeginsSegment, IsLogImage, IsBackingImage}
 use Rattle.wb_crash.specs.declared.numbers.Numbers.{Numbers}
-use Rattle.wb_crash.proofs.Texts.{some_sector, same_size, first_stands, front_is, one_held, one_segment_held, header_of_text, slot_below}
+use Rattle.wb_crash.proofs.Texts.{some_sector, same_size, first_stands, front_is, one_held, one_segment_held, header_of_text}
+use Rattle.wb_geometry.proofs.Slots.{slot_below}
 
 -- ---- the texts of a log image
 

@@ -1,4 +1,5 @@
--- The calls keep an engine safe, whether they are answered `Ok` or not; and what they leave in their course.
+-- What each step makes of one half, whether it is answered `Ok` or not; how the other half follows the numbers; and what the
+-- step leaves in its course.
 use Rattle.std.proofs.Common.{ℕ, ◌≡◌, ◌+◌, ◌-◌, ◌<◌, ◌≤◌, List, Some, inl, inr, sym, ◌∙◌, subst, arith}
 use Rattle.std.proofs.lemmas.Bool.{cases_lt}
 use Rattle.wb_geometry.specs.Image.{Image, overlay, IsPartlyWritten}
@@ -7,14 +8,15 @@ use Rattle.wb_geometry.specs.History.{HistoryEntry, after, PutsPartly}
 use Rattle.wb_geometry.specs.Line.{Line, span}
 use Rattle.wb_geometry.specs.declared.geometry.Geometry.{Geometry}
 use Rattle.wb_geometry.proofs.Images.{IsPartlyWritten-same}
-use Rattle.wb_geometry.proofs.Moments.{moment_same}
+use Rattle.wb_geometry.proofs.Moments.{moment_same, content_weaker}
 use Rattle.wb_super.specs.Recording.{Records, RecordsOrNot}
 use Rattle.wb_crash.specs.Images.{IsOrdered, HoldsSegment, IsLogImage, IsBackingImage}
 use Rattle.wb_crash.specs.Numbers.{trying, written, synced, put_up_to, recording}
-use Rattle.wb_crash.specs.Safety.{IsSafe}
+use Rattle.wb_crash.specs.Safety.{IsLogSafe, IsBackingSafe}
 use Rattle.wb_crash.specs.Crash.{IsNextText, WritesAlike}
 use Rattle.wb_crash.specs.declared.numbers.Numbers.{Numbers}
 use Rattle.wb_crash.proofs.Logs.{log_written, segment_kept, next_stands, next_partly, log_recorded, log_at_record, segment_recorded, log_at_sync, log_at_put, log_at_written}
+use Rattle.wb_crash.proofs.Shown.{shown_from, shown_before, shown_content}
 use Rattle.wb_crash.proofs.Backs.{backs_partly, backs_put, backs_at_record, backs_at_sync}
 
 -- What a crash leaves in the course of a call was left before it, or comes by its step from what was.
@@ -104,191 +106,151 @@ ordered_recording ordered = record {
   ids = ordered.ids;
 }
 
--- ---- a sync of the log, and a call that changes nothing
+-- ---- a call that changes nothing: a read, or a sync that isn't answered `Ok`
 
--- a sync of the log that is answered `Ok`
-pub log_synced : {g : Geometry} {line : Line} {e : Numbers} {log backing new : State} → IsSafe g line e log backing → e.tried ≡ e.logged
-    → NothingPending new → new.content ≡ log.content → IsSafe g line (synced e) new backing
-log_synced {g} {line} {e} {log} {backing} {new} safe up nothing kept = record {
-  ordered = ordered_synced safe.ordered;
-  start = safe.start;
+pub log_kept : {g : Geometry} {line : Line} {e : Numbers} {log new : State} → IsLogSafe g line e log
+    → Passes (λ x y. y ≡ x) log new → new.content ≡ log.content → IsLogSafe g line e new
+log_kept safe pass kept = record {
   logged = λ x told. safe.logged x (sym kept ∙ told);
-  log_content = content;
-  log_left = λ x left. content x (nothing.only x left);
-  backing_content = λ y told. backs_at_sync g line e y safe.ordered (safe.backing_content y told);
-  backing_left = λ y left. backs_at_sync g line e y safe.ordered (safe.backing_left y left);
-}
-  where
-    content : (x : Image) → new.content ≡ Some x → IsLogImage g line (synced e) x
-    content x told = log_at_sync g line e x safe.ordered up (safe.log_content x (sym kept ∙ told)) (safe.logged x (sym kept ∙ told))
-
--- one that isn't, or a read
-pub log_kept : {g : Geometry} {line : Line} {e : Numbers} {log backing new : State} → IsSafe g line e log backing
-    → Passes (λ x y. y ≡ x) log new → new.content ≡ log.content → IsSafe g line e new backing
-log_kept {g} {line} {e} {log} {backing} {new} safe pass kept = record {
-  ordered = safe.ordered;
-  start = safe.start;
-  logged = λ x told. safe.logged x (sym kept ∙ told);
-  log_content = λ x told. safe.log_content x (sym kept ∙ told);
-  log_left = λ x left. let was = pass.now x left in subst (IsLogImage g line e) (sym was.2) (safe.log_left was.0 was.1);
-  backing_content = safe.backing_content;
-  backing_left = safe.backing_left;
+  shown = λ x shows. safe.shown x (shown_before pass kept x shows);
 }
 
--- a read of the backing device, or a sync of it that isn't answered `Ok`
-pub backing_kept : {g : Geometry} {line : Line} {e : Numbers} {log backing new : State} → IsSafe g line e log backing
-    → Passes (λ x y. y ≡ x) backing new → new.content ≡ backing.content → IsSafe g line e log new
-backing_kept {g} {line} {e} {log} {backing} {new} safe pass kept = record {
-  ordered = safe.ordered;
-  start = safe.start;
-  logged = safe.logged;
-  log_content = safe.log_content;
-  log_left = safe.log_left;
-  backing_content = λ y told. safe.backing_content y (sym kept ∙ told);
-  backing_left = λ y left. let was = pass.now y left in subst (IsBackingImage line e) (sym was.2) (safe.backing_left was.0 was.1);
-}
+pub backing_kept : {line : Line} {e : Numbers} {backing new : State} → IsBackingSafe line e backing
+    → Passes (λ x y. y ≡ x) backing new → new.content ≡ backing.content → IsBackingSafe line e new
+backing_kept safe pass kept = record { shown = λ y shows. safe.shown y (shown_before pass kept y shows) }
 
--- what a call leaves in its course that changes nothing
-pub kept_leaves : {g : Geometry} {line : Line} {e : Numbers} {log backing new : State} → IsSafe g line e log backing
+-- what it leaves in its course
+pub kept_leaves : {g : Geometry} {line : Line} {e : Numbers} {log new : State} → IsLogSafe g line e log
     → IsDevice log → Passes (λ x y. y ≡ x) log new → LeavesOnly (IsLogImage g line e) log new
-kept_leaves {g} {line} {e} safe device pass = leaves_only device pass safe.log_left (λ x y left step. subst (IsLogImage g line e) (sym step) (safe.log_left x left))
+kept_leaves {g} {line} {e} safe device pass =
+    leaves_only device pass (λ x left. safe.shown x (inr left)) (λ x y left step. subst (IsLogImage g line e) (sym step) (safe.shown x (inr left)))
+
+-- ---- a sync of the log that is answered `Ok`
+
+pub log_synced : {g : Geometry} {line : Line} {e : Numbers} {log new : State} → IsOrdered g e → e.tried ≡ e.logged → IsLogSafe g line e log
+    → NothingPending new → new.content ≡ log.content → IsLogSafe g line (synced e) new
+log_synced {g} {line} {e} ordered up safe nothing kept = record {
+  logged = λ x told. safe.logged x (sym kept ∙ told);
+  shown = λ x shows.
+      let told = sym kept ∙ shown_content nothing x shows in
+      log_at_sync g line e x ordered up (safe.shown x (inl told)) (safe.logged x told);
+}
+
+pub backing_at_sync : {g : Geometry} {line : Line} {e : Numbers} {backing : State} → IsOrdered g e → IsBackingSafe line e backing → IsBackingSafe line (synced e) backing
+backing_at_sync {g} {line} {e} ordered safe = record { shown = λ y shows. backs_at_sync g line e y ordered (safe.shown y shows) }
 
 -- ---- a write of the next segment to the log
 
 -- however it ends
-pub log_tried : {g : Geometry} {line : Line} {e : Numbers} {log backing new : State} {at : ℕ} {text : Image} → IsNextText g line e at text → IsSafe g line e log backing
-    → e.tried ≡ e.logged → e.tried < e.sealed → Passes (IsPartlyWritten at text) log new → ContentPasses (IsPartlyWritten at text) log new
-    → IsSafe g line (trying e) new backing
-log_tried {g} {line} {e} {log} {backing} {new} {at} {text} next safe up sealed pass content = record {
-  ordered = ordered_trying safe.ordered up sealed next.room;
-  start = safe.start;
+pub log_tried : {g : Geometry} {line : Line} {e : Numbers} {log new : State} {at : ℕ} {text : Image} → IsNextText g line e at text → IsOrdered g e → e.tried ≡ e.logged → IsLogSafe g line e log
+    → Passes (IsPartlyWritten at text) log new → ContentPasses (IsPartlyWritten at text) log new → IsLogSafe g line (trying e) new
+log_tried {g} {line} {e} {at = at} {text = text} next ordered up safe pass content = record {
   logged = λ y told s low high.
       let was = content.from y told in
       segment_kept g line e at text was.0 y s next was.2 low (omega (arith, high, up)) (safe.logged was.0 was.1 s low high);
-  log_content = λ y told. let was = content.from y told in log_written g line e at text was.0 y safe.ordered next (safe.log_content was.0 was.1) was.2;
-  log_left = λ y left. let was = pass.now y left in log_written g line e at text was.0 y safe.ordered next (safe.log_left was.0 was.1) was.2;
-  backing_content = λ y told. let is = safe.backing_content y told in record { size = is.size; agrees = is.agrees };
-  backing_left = λ y left. let is = safe.backing_left y left in record { size = is.size; agrees = is.agrees };
+  shown = λ y shows. let was = shown_from pass content y shows in log_written g line e at text was.0 y ordered next (safe.shown was.0 was.1) was.2;
 }
+
+pub backing_at_trying : {line : Line} {e : Numbers} {backing : State} → IsBackingSafe line e backing → IsBackingSafe line (trying e) backing
+backing_at_trying safe = record { shown = λ y shows. let is = safe.shown y shows in record { size = is.size; agrees = is.agrees } }
 
 -- where it is answered `Ok`
-pub log_wrote : {g : Geometry} {line : Line} {e : Numbers} {log backing new : State} {at : ℕ} {text : Image} → IsNextText g line e at text → IsSafe g line e log backing
-    → e.tried ≡ e.logged → e.tried < e.sealed → Passes (IsPartlyWritten at text) log new → ContentPasses (λ x y. y ≡ overlay at text x) log new
-    → IsSafe g line (written e) new backing
-log_wrote {g} {line} {e} {log} {backing} {new} {at} {text} next safe up sealed pass content = record {
-  ordered = ordered_written safe.ordered up sealed next.room;
-  start = safe.start;
+pub log_wrote : {g : Geometry} {line : Line} {e : Numbers} {log new : State} {at : ℕ} {text : Image} → IsNextText g line e at text → IsOrdered g e → e.tried ≡ e.logged → IsLogSafe g line e log
+    → Passes (IsPartlyWritten at text) log new → ContentPasses (λ x y. y ≡ overlay at text x) log new → IsLogSafe g line (written e) new
+log_wrote {g} {line} {e} {log} {new} {at} {text} next ordered up safe pass content = record {
   logged = logged;
-  log_content = λ y told.
-      let was = content.from y told in
-      log_at_written g line e y (log_written g line e at text was.0 y safe.ordered next (safe.log_content was.0 was.1) (partly was.0 y was.1 was.2));
-  log_left = λ y left.
-      let was = pass.now y left in
-      log_at_written g line e y (log_written g line e at text was.0 y safe.ordered next (safe.log_left was.0 was.1) was.2);
-  backing_content = λ y told. let is = safe.backing_content y told in record { size = is.size; agrees = is.agrees };
-  backing_left = λ y left. let is = safe.backing_left y left in record { size = is.size; agrees = is.agrees };
+  shown = λ y shows. log_at_written g line e y (tried.shown y shows);
 }
   where
-    partly : (x y : Image) → log.content ≡ Some x → y ≡ overlay at text x → IsPartlyWritten at text x y
-    partly x y told is = subst (IsPartlyWritten at text x) (sym is) (next_partly g line e at text x next (safe.log_content x told))
+    partly : ContentPasses (IsPartlyWritten at text) log new
+    partly = content_weaker (λ x y told is. subst (IsPartlyWritten at text x) (sym is) (next_partly g line e at text x next (safe.shown x (inl told)))) content
+
+    tried : IsLogSafe g line (trying e) new
+    tried = log_tried next ordered up safe pass partly
 
     logged : (y : Image) → new.content ≡ Some y → (s : ℕ) → e.recorded < s → s ≤ e.logged + 1 → HoldsSegment g line y s
-    logged y told s low high =
-        let was = content.from y told in
-        elim (cases_lt e.logged s) [
-          | inr before ↦
-              segment_kept g line e at text was.0 y s next (partly was.0 y was.1 was.2) low (omega (arith, before, up)) (safe.logged was.0 was.1 s low before)
-          | inl last ↦
-              let is : e.tried + 1 ≡ s = omega (arith, up) in
-              subst (HoldsSegment g line y) is
-              (subst (λ (u : Image). HoldsSegment g line u (e.tried + 1)) (sym was.2) (next_stands g line e at text was.0 next (safe.log_content was.0 was.1)))
-        ]
+    logged y told s low high = elim (cases_lt e.logged s) [
+      | inr before ↦ tried.logged y told s low before
+      | inl last ↦
+          let was = content.from y told in
+          let is : e.tried + 1 ≡ s = omega (arith, up) in
+          subst (HoldsSegment g line y) is
+          (subst (λ (u : Image). HoldsSegment g line u (e.tried + 1)) (sym was.2) (next_stands g line e at text was.0 next (safe.shown was.0 (inl was.1))))
+    ]
+
+pub backing_at_written : {line : Line} {e : Numbers} {backing : State} → IsBackingSafe line e backing → IsBackingSafe line (written e) backing
+backing_at_written safe = record { shown = λ y shows. let is = safe.shown y shows in record { size = is.size; agrees = is.agrees } }
 
 -- what it leaves in its course
-pub write_leaves : {g : Geometry} {line : Line} {e : Numbers} {log backing new : State} {at : ℕ} {text : Image} → IsNextText g line e at text → IsSafe g line e log backing
+pub write_leaves : {g : Geometry} {line : Line} {e : Numbers} {log new : State} {at : ℕ} {text : Image} → IsNextText g line e at text → IsOrdered g e → IsLogSafe g line e log
     → IsDevice log → Passes (IsPartlyWritten at text) log new → LeavesOnly (IsLogImage g line (trying e)) log new
-write_leaves {g} {line} {e} {log} {backing} {new} {at} {text} next safe device pass =
+write_leaves {g} {line} {e} {at = at} {text = text} next ordered safe device pass =
     leaves_only device pass
-    (λ x left. log_written g line e at text x x safe.ordered next (safe.log_left x left) (IsPartlyWritten-same at text x))
-    (λ x y left step. log_written g line e at text x y safe.ordered next (safe.log_left x left) step)
+    (λ x left. log_written g line e at text x x ordered next (safe.shown x (inr left)) (IsPartlyWritten-same at text x))
+    (λ x y left step. log_written g line e at text x y ordered next (safe.shown x (inr left)) step)
 
 -- ---- a write of the record
 
 -- however it ends
-pub record_tried : {g : Geometry} {line : Line} {e : Numbers} {log backing new : State} → IsSafe g line e log backing
-    → Passes (RecordsOrNot e.back) log new → ContentPasses (RecordsOrNot e.back) log new → IsSafe g line e new backing
-record_tried {g} {line} {e} {log} {backing} {new} safe pass content = record {
-  ordered = safe.ordered;
-  start = safe.start;
+pub record_tried : {g : Geometry} {line : Line} {e : Numbers} {log new : State} → IsOrdered g e → IsLogSafe g line e log
+    → Passes (RecordsOrNot e.back) log new → ContentPasses (RecordsOrNot e.back) log new → IsLogSafe g line e new
+record_tried {g} {line} {e} ordered safe pass content = record {
   logged = λ y told s low high. let was = content.from y told in segment_recorded g line e.back was.0 y s was.2 (safe.logged was.0 was.1 s low high);
-  log_content = λ y told. let was = content.from y told in log_recorded g line e was.0 y safe.ordered (safe.log_content was.0 was.1) was.2;
-  log_left = λ y left. let was = pass.now y left in log_recorded g line e was.0 y safe.ordered (safe.log_left was.0 was.1) was.2;
-  backing_content = safe.backing_content;
-  backing_left = safe.backing_left;
+  shown = λ y shows. let was = shown_from pass content y shows in log_recorded g line e was.0 y ordered (safe.shown was.0 was.1) was.2;
 }
 
 -- where it is answered `Ok`
-pub record_put : {g : Geometry} {line : Line} {e : Numbers} {log backing new : State} → IsSafe g line e log backing
-    → NothingPending new → ContentPasses (Records e.back) log new → IsSafe g line (recording e) new backing
-record_put {g} {line} {e} {log} {backing} {new} safe nothing content = record {
-  ordered = ordered_recording safe.ordered;
-  start = safe.start;
+pub record_put : {g : Geometry} {line : Line} {e : Numbers} {log new : State} → IsOrdered g e → IsLogSafe g line e log
+    → NothingPending new → ContentPasses (Records e.back) log new → IsLogSafe g line (recording e) new
+record_put {g} {line} {e} ordered safe nothing content = record {
   logged = λ y told s low high.
       let was = content.from y told in
-      segment_recorded g line e.back was.0 y s (inr was.2) (safe.logged was.0 was.1 s (omega (arith, low, safe.ordered.recorded)) high);
-  log_content = told_is;
-  log_left = λ y left. told_is y (nothing.only y left);
-  backing_content = λ y told. backs_at_record g line e y safe.ordered (safe.backing_content y told);
-  backing_left = λ y left. backs_at_record g line e y safe.ordered (safe.backing_left y left);
+      segment_recorded g line e.back was.0 y s (inr was.2) (safe.logged was.0 was.1 s (omega (arith, low, ordered.recorded)) high);
+  shown = λ y shows.
+      let was = content.from y (shown_content nothing y shows) in
+      log_at_record g line e was.0 y ordered (safe.shown was.0 (inl was.1)) was.2;
 }
-  where
-    told_is : (y : Image) → new.content ≡ Some y → IsLogImage g line (recording e) y
-    told_is y told = let was = content.from y told in log_at_record g line e was.0 y safe.ordered (safe.log_content was.0 was.1) was.2
+
+pub backing_at_record : {g : Geometry} {line : Line} {e : Numbers} {backing : State} → IsOrdered g e → IsBackingSafe line e backing → IsBackingSafe line (recording e) backing
+backing_at_record {g} {line} {e} ordered safe = record { shown = λ y shows. backs_at_record g line e y ordered (safe.shown y shows) }
 
 -- what it leaves in its course
-pub record_leaves : {g : Geometry} {line : Line} {e : Numbers} {log backing new : State} → IsSafe g line e log backing
+pub record_leaves : {g : Geometry} {line : Line} {e : Numbers} {log new : State} → IsOrdered g e → IsLogSafe g line e log
     → IsDevice log → Passes (RecordsOrNot e.back) log new → LeavesOnly (IsLogImage g line e) log new
-record_leaves {g} {line} {e} {log} {backing} {new} safe device pass =
-    leaves_only device pass safe.log_left (λ x y left step. log_recorded g line e x y safe.ordered (safe.log_left x left) step)
+record_leaves {g} {line} {e} ordered safe device pass =
+    leaves_only device pass (λ x left. safe.shown x (inr left)) (λ x y left step. log_recorded g line e x y ordered (safe.shown x (inr left)) step)
 
 -- ---- writing segments back: those behind the last that is back, up to one that a sync of the log covered
 
 -- however it ends
-pub back_tried : {g : Geometry} {line : Line} {e : Numbers} {log backing new : State} (k : ℕ) (entries : List HistoryEntry) → IsSafe g line e log backing → e.back ≤ k → k ≤ e.stable
+pub back_tried : {g : Geometry} {line : Line} {e : Numbers} {backing new : State} (k : ℕ) (entries : List HistoryEntry) → IsOrdered g e → IsBackingSafe line e backing → e.back ≤ k → k ≤ e.stable
     → WritesAlike entries (span line.list e.back (k - e.back))
-    → Passes (PutsPartly entries) backing new → ContentPasses (PutsPartly entries) backing new → IsSafe g line e log new
-back_tried {g} {line} {e} {log} {backing} {new} k entries safe from until alike pass content = record {
-  ordered = safe.ordered;
-  start = safe.start;
-  logged = safe.logged;
-  log_content = safe.log_content;
-  log_left = safe.log_left;
-  backing_content = λ z told. let was = content.from z told in backs_partly g line e k entries was.0 z safe.ordered from until alike (safe.backing_content was.0 was.1) was.2;
-  backing_left = λ z left. let was = pass.now z left in backs_partly g line e k entries was.0 z safe.ordered from until alike (safe.backing_left was.0 was.1) was.2;
+    → Passes (PutsPartly entries) backing new → ContentPasses (PutsPartly entries) backing new → IsBackingSafe line e new
+back_tried {g} {line} {e} k entries ordered safe from until alike pass content = record {
+  shown = λ z shows.
+      let was = shown_from pass content z shows in
+      backs_partly g line e k entries was.0 z ordered from until alike (safe.shown was.0 was.1) was.2;
 }
 
 -- where it is answered `Ok`
-pub put_back : {g : Geometry} {line : Line} {e : Numbers} {log backing new : State} (k : ℕ) (entries : List HistoryEntry) → IsSafe g line e log backing → e.back ≤ k → k ≤ e.stable
-    → WritesAlike entries (span line.list e.back (k - e.back))
-    → NothingPending new → ContentPasses (λ x y. y ≡ after x entries) backing new → IsSafe g line (put_up_to k e) log new
-put_back {g} {line} {e} {log} {backing} {new} k entries safe from until alike nothing content = record {
-  ordered = ordered_put k safe.ordered from until;
-  start = safe.start;
-  logged = safe.logged;
-  log_content = λ x told. log_at_put g line e k x from (safe.log_content x told);
-  log_left = λ x left. log_at_put g line e k x from (safe.log_left x left);
-  backing_content = told_is;
-  backing_left = λ z left. told_is z (nothing.only z left);
+pub put_back : {g : Geometry} {line : Line} {e : Numbers} {backing new : State} (k : ℕ) (entries : List HistoryEntry) → line.first ≡ e.first → IsOrdered g e → IsBackingSafe line e backing
+    → e.back ≤ k → k ≤ e.stable → WritesAlike entries (span line.list e.back (k - e.back))
+    → NothingPending new → ContentPasses (λ x y. y ≡ after x entries) backing new → IsBackingSafe line (put_up_to k e) new
+put_back {g} {line} {e} k entries start ordered safe from until alike nothing content = record {
+  shown = λ z shows.
+      let was = content.from z (shown_content nothing z shows) in
+      backs_put g line e k entries was.0 z start ordered from until alike (safe.shown was.0 (inl was.1)) was.2;
 }
-  where
-    told_is : (z : Image) → new.content ≡ Some z → IsBackingImage line (put_up_to k e) z
-    told_is z told =
-        let was = content.from z told in
-        backs_put g line e k entries was.0 z safe.start safe.ordered from until alike (safe.backing_content was.0 was.1) was.2
+
+pub log_at_back : {g : Geometry} {line : Line} {e : Numbers} {log : State} (k : ℕ) → e.back ≤ k → IsLogSafe g line e log → IsLogSafe g line (put_up_to k e) log
+log_at_back {g} {line} {e} k from safe = record {
+  logged = safe.logged;
+  shown = λ x shows. log_at_put g line e k x from (safe.shown x shows);
+}
 
 -- what it leaves in its course
-pub back_leaves : {g : Geometry} {line : Line} {e : Numbers} {log backing new : State} (k : ℕ) (entries : List HistoryEntry) → IsSafe g line e log backing → e.back ≤ k → k ≤ e.stable
+pub back_leaves : {g : Geometry} {line : Line} {e : Numbers} {backing new : State} (k : ℕ) (entries : List HistoryEntry) → IsOrdered g e → IsBackingSafe line e backing → e.back ≤ k → k ≤ e.stable
     → WritesAlike entries (span line.list e.back (k - e.back)) → IsDevice backing → Passes (PutsPartly entries) backing new → LeavesOnly (IsBackingImage line e) backing new
-back_leaves {g} {line} {e} {log} {backing} {new} k entries safe from until alike device pass =
-    leaves_only device pass safe.backing_left
-    (λ y z left step. backs_partly g line e k entries y z safe.ordered from until alike (safe.backing_left y left) step)
+back_leaves {g} {line} {e} k entries ordered safe from until alike device pass =
+    leaves_only device pass (λ y left. safe.shown y (inr left))
+    (λ y z left step. backs_partly g line e k entries y z ordered from until alike (safe.shown y (inr left)) step)

@@ -1,5 +1,5 @@
 -- Segment texts as sectors of a log image: where one stands, the image begins with no other there.
-use Rattle.std.proofs.Common.{ℕ, ◌≡◌, ◌+◌, ◌-◌, ◌*◌, ◌/◌, ◌%◌, ◌<◌, ◌≤◌, List, [], ◌∷◌, length, get_or, take, drop, inl, inr, ap, sym, ◌∙◌, subst, arith, mod-lt}
+use Rattle.std.proofs.Common.{ℕ, ◌≡◌, ◌+◌, ◌-◌, ◌*◌, ◌/◌, ◌<◌, ◌≤◌, List, [], ◌∷◌, length, get_or, take, drop, inl, inr, ap, sym, ◌∙◌, subst, arith}
 use Rattle.std.specs.Int.{w64, from_le_bytes}
 use Rattle.std.proofs.lemmas.Bool.{cases_lt}
 use Rattle.std.proofs.lemmas.List.{get_or_append_left, get_or_past, get_or-take, get_or-drop, take-append-le, length-take-le, length-drop}
@@ -90,7 +90,3 @@ one_segment_held held too = one_held held.is too.is held.stands too.stands
 -- its slot tells its id
 pub header_of_text : {g : Geometry} {text : Image} {id : ℕ} {blocks : List TextBlock} (x : Image) (slot : ℕ) → IsSegmentText g text id blocks → sector x (slot_at g slot) ≡ sector text 0 → header_id g x slot ≡ id
 header_of_text x slot is same = ap (λ (s : List ℕ). from_le_bytes w64 (take 8 s)) same ∙ id_of_text is
-
--- segments take the slots there are
-pub slot_below : (g : Geometry) (s : ℕ) → (s - 1) % g.slots < g.slots
-slot_below g s = mod-lt (s - 1) (omega (arith, g.slots_fit.0))

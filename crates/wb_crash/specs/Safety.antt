@@ -1,5 +1,5 @@
--- What the devices of an engine hold, and may hold after a crash now.
-use Rattle.std.specs.Prelude.{ℕ, ◌≡◌, ◌<◌, ◌≤◌, Some}
+-- What the devices of an engine show: each half by the numbers, and nothing of the other device.
+use Rattle.std.specs.Prelude.{ℕ, ◌≡◌, ◌⊎◌, ◌<◌, ◌≤◌, Some}
 use Rattle.wb_geometry.specs.Image.{Image}
 use Rattle.wb_geometry.specs.Device.{State}
 use Rattle.wb_geometry.specs.Line.{Line}
@@ -8,16 +8,26 @@ use Rattle.wb_super.specs.Superblock.{SuperText, record_of, header_id}
 use Rattle.wb_crash.specs.Images.{IsOrdered, HoldsSegment, IsLogImage, IsBackingImage}
 use Rattle.wb_crash.specs.declared.numbers.Numbers.{Numbers}
 
--- The line begins where the session did. All that is logged and isn't recorded stands in the log's content; and the content
--- of each device, where it is told, and what a crash now may leave of it are images of the engine.
+-- The device shows the image: it tells it as its content, or a crash now may leave it.
+abbrev pub Shows : State → Image → Type 0
+Shows s x = (s.content ≡ Some x) ⊎ s.leaves_now x
+
+-- All that is logged and isn't recorded stands in the log's content, and each image that the log shows is one of an engine's
+-- log.
+pub record IsLogSafe (g : Geometry) (line : Line) (e : Numbers) (log : State) : Type 0 where
+  pub logged : (x : Image) → log.content ≡ Some x → (s : ℕ) → e.recorded < s → s ≤ e.logged → HoldsSegment g line x s
+  pub shown : (x : Image) → Shows log x → IsLogImage g line e x
+
+-- each image that the backing device shows is one of an engine's backing device
+pub record IsBackingSafe (line : Line) (e : Numbers) (backing : State) : Type 0 where
+  pub shown : (y : Image) → Shows backing y → IsBackingImage line e y
+
+-- The numbers are in order, the line begins where the session did, and by them each of the two devices is safe.
 pub record IsSafe (g : Geometry) (line : Line) (e : Numbers) (log backing : State) : Type 0 where
   pub ordered : IsOrdered g e
   pub start : line.first ≡ e.first
-  pub logged : (x : Image) → log.content ≡ Some x → (s : ℕ) → e.recorded < s → s ≤ e.logged → HoldsSegment g line x s
-  pub log_content : (x : Image) → log.content ≡ Some x → IsLogImage g line e x
-  pub log_left : (x : Image) → log.leaves_now x → IsLogImage g line e x
-  pub backing_content : (y : Image) → backing.content ≡ Some y → IsBackingImage line e y
-  pub backing_left : (y : Image) → backing.leaves_now y → IsBackingImage line e y
+  pub on_log : IsLogSafe g line e log
+  pub on_backing : IsBackingSafe line e backing
 
 -- the lines agree up to segment k
 pub record IsSameUpTo (k : ℕ) (a b : Line) : Type 0 where

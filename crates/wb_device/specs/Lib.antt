@@ -1,5 +1,6 @@
 pub mod Disk
 pub mod File
+pub mod Listing
 pub mod Memory
 pub mod Planned
 pub mod Recorded

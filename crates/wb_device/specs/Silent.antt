@@ -1,6 +1,5 @@
 -- The state of a device that tells neither its content nor what a crash may leave.
-use Rattle.std.specs.Prelude.{ℕ, [], false, None}
-use Rattle.std.proofs.lemmas.Bool.{false≢true}
+use Rattle.std.specs.Prelude.{ℕ, [], None}
 use Rattle.std.proofs.lemmas.Option.{none-some}
 use Rattle.wb_geometry.specs.Device.{State, IsDevice}
 
@@ -11,7 +10,7 @@ silent_state sectors faults syncs reads = record {
   leaves_now = λ _. ⊥;
   left_since = λ _ _. ⊥;
   moment = [];
-  tells_images = false;
+  tells_images = ⊥;
   faults = faults;
   syncs = syncs;
   reads = reads;
@@ -26,6 +25,6 @@ silent_is_device sectors faults syncs reads = record {
   counts_now = λ m x le left. absurd left;
   only_now = λ x left. absurd left;
   wider = λ m n x first last left. left;
-  told = λ tells. absurd (false≢true tells);
-  untold = λ none m x left. left;
+  told = λ tells. absurd tells;
+  shown = λ m x left. absurd left;
 }

@@ -1,7 +1,6 @@
 -- The state of a device in memory that never fails.
-use Rattle.std.specs.Prelude.{◌/◌, [], length, false, Some}
+use Rattle.std.specs.Prelude.{◌/◌, [], length, Some}
 use Rattle.std.proofs.Common.{subst}
-use Rattle.std.proofs.lemmas.Bool.{false≢true}
 use Rattle.std.proofs.lemmas.Option.{same_Some}
 use Rattle.wb_geometry.specs.Image.{IsImage, sectors_of}
 use Rattle.wb_geometry.proofs.Images.{IsImage-sectors_of}
@@ -16,7 +15,7 @@ steady_state d = record {
   leaves_now = λ _. ⊥;
   left_since = λ _ _. ⊥;
   moment = [];
-  tells_images = false;
+  tells_images = ⊥;
   faults = 0;
   syncs = d.syncs;
   reads = d.reads;
@@ -27,10 +26,10 @@ steady_is_device d = record {
   content = λ x told. subst (IsImage (length d.bytes.items / 512)) (same_Some (sectors_of d.bytes.items) x told) (IsImage-sectors_of d.bytes.items);
   now = λ x left. absurd left;
   since = λ m x left. absurd left;
-  left = λ tells x told. absurd (false≢true tells);
+  left = λ tells x told. absurd tells;
   counts_now = λ m x le left. absurd left;
   only_now = λ x left. absurd left;
   wider = λ m n x first last left. left;
-  told = λ tells. absurd (false≢true tells);
-  untold = λ none m x left. left;
+  told = λ tells. absurd tells;
+  shown = λ m x left. absurd left;
 }

@@ -120,7 +120,7 @@ impl MemoryDevice {
 }
 
 impl Device for MemoryDevice {
-    ghost use Rattle.std.specs.Prelude.{◌≡◌, ◌≤◌, ◌++◌, ◌∷◌, [], IsSome, OnOk, OnErr};
+    ghost use Rattle.std.specs.Prelude.{◌≡◌, ◌≤◌, ◌++◌, ◌∷◌, [], Some, IsSome, OnOk, OnErr};
     ghost use Rattle.wb_geometry.specs.Image.{Image, sectors_of, overlay, IsPartlyWritten};
     ghost use Rattle.wb_geometry.specs.Device.{IsInside, IsSameDevice, HasCause, HoldsContent, NothingPending, ContentPasses, Passes, next_count};
     ghost use Rattle.wb_geometry.specs.Disk.{Write, Sync};
@@ -179,6 +179,7 @@ impl Device for MemoryDevice {
         ensures next { IsNextCall self.old self.new }
         ensures stopped { StopsThere self.old self.new }
         ensures front { StoresFront at bytes.now self.old self.new }
+        ensures starved { next_fault self.old ≡ Some 0 → memory_starved self.new ≡ memory_starved self.old }
 
         // It records what it wrote, and nothing else.
         ensures recorded { OnOk result (memory_changes self.new ≡ memory_changes self.old ++ Write at (sectors_of bytes.now) ∷ []) }
@@ -211,6 +212,7 @@ impl Device for MemoryDevice {
         ensures planned { FailsAsPlanned self.old self.new result }
         ensures next { IsNextCall self.old self.new }
         ensures stopped { StopsThere self.old self.new }
+        ensures starved { IsSome (next_fault self.old) → memory_starved self.new ≡ memory_starved self.old }
 
         // It records that it was done, and nothing else.
         ensures recorded { OnOk result (memory_changes self.new ≡ memory_changes self.old ++ Sync ∷ []) }

@@ -3,13 +3,14 @@
 //!
 //! A `Device` answers a fault only where its count of faults rose, and says what a crash may leave of it after each
 //! call (`wb_geometry`). `SteadyDevice`, `MemorySource` and `MemorySink` stand in memory and tell what they hold;
-//! `MemoryDevice` does too, fails as planned, and crashes. `FileDevice`, `StdinSource` and `StdoutSink` are the adapters
-//! over the outside, of which nobody can tell.
+//! `MemoryDevice` does too, fails as planned, and crashes. `ListingDevice` stands over any device, and lists and counts its
+//! calls. `FileDevice`, `StdinSource` and `StdoutSink` are the adapters over the outside, of which nobody can tell.
 #![tactic(auto)]
 
 mod device;
 mod disk;
 mod file;
+mod listing;
 mod medium;
 mod memory;
 mod planned;
@@ -20,6 +21,7 @@ mod streams;
 pub use device::{Device, DeviceFault};
 pub use disk::MemoryDevice;
 pub use file::FileDevice;
+pub use listing::{CallCounts, DeviceCall, ListingDevice};
 pub use memory::{MemorySink, MemorySource};
 pub use planned::{FaultPlan, PlannedFault};
 pub use standard::{StdinSource, StdoutSink};

@@ -126,16 +126,17 @@ impl Sink for MemorySink {
         ensures bytes { Takes (sink_taken self.old) (sink_taken self.new) bytes.now result }
         ensures cause { CountsFaults (sink_faults self.old) (sink_faults self.new) result }
 
-        // It fails at the planned call, or where it finds no memory.
-        ensures failed { OnErr result (SinkFails self.old ⊎ (sink_starved self.new ≡ next_count (sink_starved self.old))) }
+        // It fails at the planned call, and else only where it finds no memory.
+        ensures failed { OnErr result ((SinkFails self.old × (sink_starved self.new ≡ sink_starved self.old))
+            ⊎ ((¬ SinkFails self.old) × (sink_starved self.new ≡ next_count (sink_starved self.old)))) }
         ensures worked { OnOk result (¬ SinkFails self.old) }
         ensures fed { OnOk result (sink_starved self.new ≡ sink_starved self.old) }
         ensures failing { sink_failing self.new ≡ sink_failing self.old }
         ensures calls { sink_calls self.new ≡ next_count (sink_calls self.old) }
     {
-        let call = self.calls;
-        self.calls = call.saturating_add(1);
-        if self.failing == Some(call) {
+        let is_planned = self.failing == Some(self.calls);
+        self.calls = self.calls.saturating_add(1);
+        if is_planned {
             self.faults = self.faults.saturating_add(1);
             return Err(SinkFault);
         }

@@ -6,7 +6,7 @@ use Rattle.std.specs.Prelude.{bit_or}
 use Rattle.std.proofs.lemmas.Bool.{cases_lt, cases_eq}
 use Rattle.std.proofs.lemmas.Bool.Decides.{nat_tests}
 use Rattle.std.proofs.lemmas.List.{append_assoc, drop-drop, take-replicate, drop-replicate, get_or-replicate, get_or_append_left, get_or-append_right, length-replicate, ext_get_or, get_or-take, get_or-drop, length-take-le}
-use Rattle.std.proofs.Math.Nat.{pow-le-pow_right}
+use Rattle.std.proofs.Math.Nat.{pow-le-pow_right, mul-le-mul_left}
 use Rattle.std.proofs.lemmas.Nat.{pow-add, pow_pos}
 use Rattle.std.proofs.lemmas.Nat.Bits.{ones_shr, bit_at_mask_inside, bit_at_or, bit_at-lt}
 use Rattle.wb_geometry.specs.Image.{sector, sectors_of}
@@ -30,6 +30,14 @@ ones_shifted from count some inside =
     let whole : (2 ^ count - 1) * 2 ^ from ≡ 2 ^ (from + count) - 2 ^ from =
     one_less (2 ^ count - 1) (2 ^ from) ∙ ap (λ (n : ℕ). 2 ^ from * n - 2 ^ from) more ∙ ap (λ (n : ℕ). n - 2 ^ from) (sym product) in
     rw (ones, whole) (omega (arith, top, pow_pos from))
+
+-- a part with a sector has a bit
+pub part_is_dirty : (from count : ℕ) → 1 ≤ count → 2 ^ (from + count) - 2 ^ from ≢ 0
+part_is_dirty from count some none =
+    let product : 2 ^ (from + count) ≡ 2 ^ from * 2 ^ count = pow-add 2 from count in
+    let two : 2 ^ 1 ≤ 2 ^ count = pow-le-pow_right (omega arith) some in
+    let twice : 2 ^ from * 2 ≤ 2 ^ from * 2 ^ count = mul-le-mul_left (2 ^ from) two in
+    omega (arith, product, twice, none, pow_pos from)
 
 -- zeros where the part has no sector
 pub get_or-part_payload : (part : Part) (bytes : List ℕ) (at : ℕ) → part.from + part.count ≤ 8 → length bytes ≡ 512 * part.count → at < 4096

@@ -3,7 +3,7 @@ use Rattle.std.proofs.Common.{◌≡◌, ◌⊎◌, ℕ, zero, suc, ◌+◌, ◌
 use Rattle.std.specs.List.{All, Contains, enumerate_from}
 use Rattle.std.specs.Prelude.{slice_index}
 use Rattle.std.proofs.Math.ListN.{get_or-eq_default}
-use Rattle.std.proofs.lemmas.Bool.{cases_lt, true≢false}
+use Rattle.std.proofs.lemmas.Bool.{cases_lt}
 use Rattle.std.proofs.lemmas.Bool.Decides.{nat_tests}
 use Rattle.std.proofs.lemmas.Option.{same_Some}
 use Rattle.std.proofs.Math.Seq.{get_or-append_seam}
@@ -137,7 +137,7 @@ disk_is_device n x start changes faults syncs reads image whole content = record
       subst (λ (cs : List Change). MayLeave start cs y) all left.left;
   wider = λ m o y first last left. record { at = left.at; since = moment_trans first left.since; until = left.until; left = left.left };
   told = λ tells. refl;
-  untold = λ none m y left. absurd (true≢false none);
+  shown = λ m y left. tt;
 }
 
 -- the steps

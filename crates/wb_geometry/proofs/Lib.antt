@@ -5,3 +5,4 @@ pub mod Histories
 pub mod Images
 pub mod Moments
 pub mod Lines
+pub mod Slots

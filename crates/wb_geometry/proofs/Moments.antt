@@ -1,6 +1,5 @@
 -- How one call follows another: moments, the images that a crash may leave, contents and counts.
 use Rattle.std.proofs.Common.{◌≡◌, ◌⊎◌, ℕ, ◌≤◌, List, Some, Ok, Err, Result, OnOk, OnErr, refl, sym, ◌∙◌, subst, inl, inr, arith}
-use Rattle.std.proofs.lemmas.Bool.{cases_Bool}
 use Rattle.std.proofs.lemmas.Option.{same_Some}
 use Rattle.wb_geometry.specs.Image.{Image}
 use Rattle.wb_geometry.specs.Device.{State, next_count, Rose, CountsFaults, IsNotAfter, NothingPending, Passes, ContentPasses, IsSameDevice, OnlyRead, IsUncalled, IsDevice}
@@ -70,12 +69,10 @@ joined alone both first second = joined_between alone both first first.now secon
 -- A call after which nothing is pending leaves the content alone, so what a crash leaves then comes by the content's step.
 pub settled : {Step : Image → Image → Type 0} {old new : State} {y : Image}
     → IsDevice old → IsDevice new → IsSameDevice old new → NothingPending new → ContentPasses Step old new → new.leaves_now y → (x : Image) × old.leaves_now x × Step x y
-settled {old} {new} {y} before after same nothing pass left = elim (cases_Bool old.tells_images) [
-  | inl tells ↦
-      let from = pass.from y (nothing.only y left) in
-      (from.0, before.left tells from.0 from.1, from.2)
-  | inr silent ↦ absurd (after.untold (same.told ∙ silent) new.moment y (after.counts_now new.moment y (moment_same new.moment) left))
-]
+settled {old} {new} {y} before after same nothing pass left =
+    let from = pass.from y (nothing.only y left) in
+    let tells : new.tells_images = after.shown new.moment y (after.counts_now new.moment y (moment_same new.moment) left) in
+    (from.0, before.left (same.told.0 tells) from.0 from.1, from.2)
 
 -- then a call that changes nothing
 pub joined_same : {Step : Image → Image → Type 0} {old mid new : State} → Passes Step old mid → Passes (λ x y. y ≡ x) mid new → Passes Step old new
@@ -145,10 +142,13 @@ content_kept_before kept pass = record {
 -- what no call changes
 
 pub same_device : (s : State) → IsSameDevice s s
-same_device s = record { size = refl; told = refl }
+same_device s = record { size = refl; told = (λ tells. tells, λ tells. tells) }
 
 pub same_device_trans : {old mid new : State} → IsSameDevice old mid → IsSameDevice mid new → IsSameDevice old new
-same_device_trans first second = record { size = second.size ∙ first.size; told = second.told ∙ first.told }
+same_device_trans first second = record {
+  size = second.size ∙ first.size;
+  told = (λ tells. first.told.0 (second.told.0 tells), λ tells. second.told.1 (first.told.1 tells));
+}
 
 -- reads alone
 

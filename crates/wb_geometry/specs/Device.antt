@@ -1,16 +1,16 @@
 -- The state of a device, and how a call leads from one state to the next.
-use Rattle.std.specs.Prelude.{ℕ, ◌≡◌, ◌⊎◌, ◌+◌, ◌-◌, ◌/◌, ◌%◌, ◌^◌, ◌≤◌, Bool, IsTrue, false, IsSome, List, length, slice_index, min, max, Option, Some, Result, OnOk, OnErr}
+use Rattle.std.specs.Prelude.{ℕ, ◌≡◌, ◌⊎◌, ◌↔◌, ◌+◌, ◌-◌, ◌/◌, ◌%◌, ◌^◌, ◌≤◌, IsSome, List, length, slice_index, min, max, Option, Some, Result, OnOk, OnErr}
 use Rattle.wb_geometry.specs.Image.{Image, IsImage, bytes_at}
 
 -- A device at one point of its run. `left_since m` holds of each image that a crash at some moment from m until
--- now may have left. A device that tells no crash images leaves none.
+-- now may have left. Whether it tells such images is a proposition; a device that tells none leaves none.
 pub record State : Type 1 where
   pub sectors : ℕ
   pub content : Option Image
   pub leaves_now : Image → Type 0
   pub left_since : List ℕ → Image → Type 0
   pub moment : List ℕ
-  pub tells_images : Bool
+  pub tells_images : Type 0
   pub faults : ℕ
   pub syncs : ℕ
   pub reads : ℕ
@@ -70,7 +70,7 @@ pub record ContentPasses (Step : Image → Image → Type 0) (old new : State) :
 -- what no call changes
 pub record IsSameDevice (old new : State) : Type 0 where
   pub size : new.sectors ≡ old.sectors
-  pub told : new.tells_images ≡ old.tells_images
+  pub told : new.tells_images ↔ old.tells_images
 
 -- only reads were made: neither the content changed nor what a crash may leave
 pub record OnlyRead (old new : State) : Type 0 where
@@ -102,12 +102,12 @@ pub record IsDevice (s : State) : Type 0 where
   pub now : (x : Image) → s.leaves_now x → IsImage s.sectors x
   pub since : (m : List ℕ) (x : Image) → s.left_since m x → IsImage s.sectors x
   -- the content is one of the images
-  pub left : IsTrue s.tells_images → (x : Image) → s.content ≡ Some x → s.leaves_now x
+  pub left : s.tells_images → (x : Image) → s.content ≡ Some x → s.leaves_now x
   -- this moment is one of those since an earlier one, and since this one there is no other
   pub counts_now : (m : List ℕ) (x : Image) → IsNotAfter m s.moment → s.leaves_now x → s.left_since m x
   pub only_now : (x : Image) → s.left_since s.moment x → s.leaves_now x
   -- what was left since a later moment was left since an earlier one
   pub wider : (m n : List ℕ) (x : Image) → IsNotAfter m n → IsNotAfter n s.moment → s.left_since n x → s.left_since m x
-  -- a device that tells its images tells its content, and one that doesn't leaves none
-  pub told : IsTrue s.tells_images → IsSome s.content
-  pub untold : s.tells_images ≡ false → (m : List ℕ) (x : Image) → s.left_since m x → ⊥
+  -- a device that tells its images tells its content, and an image that is left shows that they are told
+  pub told : s.tells_images → IsSome s.content
+  pub shown : (m : List ℕ) (x : Image) → s.left_since m x → s.tells_images

@@ -1,5 +1,5 @@
 -- A disk that keeps what it was told to write until it is told to sync: what a read gives, and what a crash may leave.
-use Rattle.std.specs.Prelude.{ℕ, ◌≡◌, ◌+◌, ◌-◌, ◌<◌, ◌≤◌, ◌%◌, List, [], ◌∷◌, ◌++◌, map, length, take, slice_index, slice_index_or, nat_le, nat_lt, ◌&&◌, if◌then◌else◌, Some, true}
+use Rattle.std.specs.Prelude.{ℕ, ◌≡◌, ◌+◌, ◌-◌, ◌<◌, ◌≤◌, ◌%◌, List, [], ◌∷◌, ◌++◌, map, length, take, slice_index, slice_index_or, nat_le, nat_lt, ◌&&◌, if◌then◌else◌, Some}
 use Rattle.std.specs.List.{Contains, enumerate_from}
 use Rattle.wb_geometry.specs.Image.{Image, IsImage, sector}
 use Rattle.wb_geometry.specs.Device.{State, IsNotAfter}
@@ -63,7 +63,7 @@ disk_state sectors content start changes faults syncs reads = record {
   leaves_now = MayLeave start changes;
   left_since = LeftSince start changes;
   moment = length changes ∷ [];
-  tells_images = true;
+  tells_images = Unit {0};
   faults = faults;
   syncs = syncs;
   reads = reads;

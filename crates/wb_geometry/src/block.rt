@@ -1,5 +1,5 @@
 //! A block of eight sectors, of which some are dirty.
-ghost use Rattle.std.specs.Prelude.{◌≡◌, ◌≤◌, ◌<◌, ◌+◌, ◌-◌, ◌*◌, ◌^◌, ℕ, length, slice_index};
+ghost use Rattle.std.specs.Prelude.{◌≡◌, ◌≢◌, ◌≤◌, ◌<◌, ◌+◌, ◌-◌, ◌*◌, ◌^◌, ℕ, length, slice_index};
 ghost use Rattle.wb_geometry.specs.Block.{IsClean, part_payload, joined_byte};
 
 use crate::Part;
@@ -25,7 +25,8 @@ pub struct Block {
 fn dirty_bits(from: u8, count: u8) -> u8
     requires some { 1 ≤ count }
     requires inside { from + count ≤ 8 }
-    ensures { result ≡ 2 ^ (from + count) - 2 ^ from }
+    ensures bits { result ≡ 2 ^ (from + count) - 2 ^ from }
+    ensures dirty { result ≢ 0 }
 {
     (0xff >> (8 - count)) << from
 }
@@ -71,9 +72,18 @@ pub fn join_sectors(payload: &mut [u8; BLOCK_BYTES], bits: u8, later: &[u8])
 }
 
 impl Block {
-    ghost use Rattle.std.specs.Prelude.{◌≡◌, ◌+◌, ◌*◌, ◌≤◌, ◌<◌, ℕ, IfOk, length, bit_or};
+    ghost use Rattle.std.specs.Prelude.{◌≡◌, ◌≢◌, ◌+◌, ◌*◌, ◌≤◌, ◌<◌, ℕ, IfOk, length, bit_or};
     ghost use Rattle.wb_geometry.specs.Image.{sector, sectors_of};
-    ghost use Rattle.wb_geometry.specs.Block.{part_bits, part_payload, joined_sector};
+    ghost use Rattle.wb_geometry.specs.Block.{IsClean, part_bits, part_payload, joined_sector};
+
+    /// The block of these dirty bits, which may have gaps, and of these bytes: zeros in each sector whose bit isn't set.
+    pub fn of(bits: u8, payload: [u8; BLOCK_BYTES]) -> Block
+        requires { IsClean bits payload }
+        ensures bits { result.bits ≡ bits }
+        ensures payload { result.payload ≡ payload }
+    {
+        Block { payload, bits }
+    }
 
     /// The block of a part of a write, with the bytes of its sectors. The part has at least one sector, and lies in the
     /// block.
@@ -82,6 +92,7 @@ impl Block {
         requires inside { part.now.from + part.now.count ≤ 8 }
         requires size { length bytes.now ≡ 512 * part.now.count }
         ensures bits { IfOk result (λ b. b.value.bits ≡ part_bits part.now) }
+        ensures dirty { IfOk result (λ b. b.value.bits ≢ 0) }
         ensures payload { IfOk result (λ b. b.value.payload ≡ part_payload part.now bytes.now) }
     {
         let payload = laid_out(part, bytes);

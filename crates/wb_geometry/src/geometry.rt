@@ -36,9 +36,9 @@ pub enum GeometryRefused {
 const FIRST_SLOT: u64 = 2048;
 
 impl Geometry {
-    ghost use Rattle.std.specs.Prelude.{◌≡◌, ◌≤◌, IfOk, IfErr};
+    ghost use Rattle.std.specs.Prelude.{◌≡◌, ◌≤◌, ◌<◌, IfOk, IfErr};
     ghost use Rattle.wb_geometry.specs.Geometry.{Refuses};
-    ghost use Rattle.wb_geometry.specs.Layout.{slot_sectors, log_sectors, slot_start, places, segment_of};
+    ghost use Rattle.wb_geometry.specs.Layout.{slot_sectors, log_sectors, slot_at, slot_start, places, segment_of};
 
     /// The geometry of these numbers, or the first of them, in this order, that is out of its range.
     pub fn new(
@@ -112,6 +112,14 @@ impl Geometry {
         ensures { result ≡ slot_start self.now id }
     {
         FIRST_SLOT + self.slot_sectors() * ((id - 1) % u64::from(self.slots))
+    }
+
+    /// The sector where this slot begins. The slots are numbered from 0.
+    pub fn slot_at(&self, slot: u32) -> u64
+        requires { slot < self.now.slots }
+        ensures { result ≡ slot_at self.now slot }
+    {
+        FIRST_SLOT + self.slot_sectors() * u64::from(slot)
     }
 }
 

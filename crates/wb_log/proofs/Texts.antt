@@ -14,7 +14,8 @@ use Rattle.wb_header.specs.Slots.{IsSegmentText, Stands, HoldsText}
 use Rattle.wb_header.proofs.Checkings.{block_at as block_of_text}
 use Rattle.wb_log.specs.Reading.{block_start}
 use Rattle.wb_log.proofs.Pieces.{sectors_of-bytes_of, sector_there, bytes_at-same}
-use Rattle.wb_log.proofs.Slots.{slot_sectors-places, AreApart}
+use Rattle.wb_geometry.proofs.Slots.{AreApart}
+use Rattle.wb_header.proofs.SlotTexts.{text_fits}
 
 -- ---- a text
 
@@ -125,10 +126,6 @@ stands_elsewhere at other text written x y apart stands some = record {
     ]
   ];
 }
-
--- a text is no longer than a slot
-pub text_fits : (g : Geometry) (text : Image) (id : ℕ) (blocks : List TextBlock) → IsSegmentText g text id blocks → length text ≤ slot_sectors g
-text_fits g text id blocks is = omega (arith, is.whole.size, is.is.few, slot_sectors-places g)
 
 -- the slot of a segment that was written whole holds it
 pub holds_after_write : (g : Geometry) (text x : Image) (id : ℕ) (blocks : List TextBlock) → IsSegmentText g text id blocks → slot_start g id + slot_sectors g ≤ length x

@@ -1,5 +1,5 @@
 -- What the writing of a segment makes of a log.
-use Rattle.std.specs.Prelude.{ℕ, ◌≡◌, List, Result, OnOk}
+use Rattle.std.specs.Prelude.{ℕ, ◌≡◌, ◌+◌, ◌*◌, ◌<◌, ◌≤◌, List, Result, OnOk}
 use Rattle.wb_geometry.specs.Image.{Image, overlay, IsPartlyWritten}
 use Rattle.wb_geometry.specs.Device.{State, Passes, ContentPasses}
 use Rattle.wb_geometry.specs.Layout.{slot_start}
@@ -14,3 +14,7 @@ pub record WritesSegment {T E : Type 0} (g : Geometry) (id : ℕ) (blocks : List
   pub ok : OnOk result (ContentPasses (λ x y. y ≡ overlay (slot_start g id) text x) old new)
   pub partly : ContentPasses (IsPartlyWritten (slot_start g id) text) old new
   pub crash : Passes (IsPartlyWritten (slot_start g id) text) old new
+
+-- the sectors that a segment of so many blocks takes in its slot, with its header
+abbrev pub IsInText : Geometry → (id count : ℕ) → ℕ → Type 0
+IsInText g id count i = (slot_start g id ≤ i) × (i < slot_start g id + 8 * (1 + count))

@@ -3,9 +3,9 @@ ghost use Rattle.std.specs.Prelude.{◌≤◌, ◌<◌, ◌+◌};
 
 use crate::RamSegment;
 use std::alloc::{AllocError, Global};
-use std::test::Fail;
+use std::process::Abort;
 use wb_geometry::{Block, Part};
-use wb_header::Meta;
+use wb_header::{Meta, Sealed};
 
 /// The blocks that are written are below this number.
 const BLOCKS: usize = 12;
@@ -53,7 +53,9 @@ fn holds(segment: &RamSegment, held: &Held) -> bool {
 
 /// Merges, each as a block, its first sector, the count of the sectors and what they are filled with; and after each the
 /// index that was answered, the number of blocks, and what the block then has.
-const MERGES: [(usize, u8, u8, u8, u8, usize, [u8; 8]); 7] = [
+type Merge = (usize, u8, u8, u8, u8, usize, [u8; 8]);
+
+const MERGES: [Merge; 7] = [
     (7, 1, 2, 0x10, 0, 1, [0, 0x11, 0x12, 0, 0, 0, 0, 0]),
     (
         9,
@@ -87,76 +89,120 @@ const MERGES: [(usize, u8, u8, u8, u8, usize, [u8; 8]); 7] = [
     ),
 ];
 
-#[test]
-fn writes_are_merged_by_block(rt: HostRuntime) -> Result<(), Fail> {
-    let mut segment = RamSegment::new(rt.alloc(), 5, ROOM)?;
-    let mut held = [[0; 8]; BLOCKS];
-    assert!(rt; segment.id() == 5 && segment.spare() == ROOM && holds(&segment, &held));
-    for (block, from, count, fill, index, len, bytes) in MERGES {
-        assert!(rt; block < BLOCKS && from < 8 && 1 <= count && count <= 8 - from);
-        let payload = written(rt.alloc(), from, count, fill)?;
-        assert!(rt; payload.bits != 0 && segment.spare() != 0);
-        assert_eq!(rt; segment.merge(block as u64, payload), index);
-        assert_eq!(rt; segment.len(), len);
-        assert_eq!(rt; segment.spare(), ROOM - len);
-        held[block] = bytes;
-        assert!(rt; holds(&segment, &held));
-    }
+/// Merges a write of `count` sectors of a block from `from` on, and gives the index of the block.
+fn merge(
+    rt: &impl Abort,
+    alloc: Global,
+    segment: &mut RamSegment,
+    block: usize,
+    from: u8,
+    count: u8,
+    fill: u8,
+) -> Result<u8, AllocError>
+    requires some { 1 ≤ count }
+    requires inside { from + count ≤ 8 }
+{
+    let payload = written(alloc, from, count, fill)?;
+    assert!(rt; payload.bits != 0 && segment.spare() != 0);
+    Ok(segment.merge(block as u64, payload))
+}
 
+/// Merges a write of the table, and gives the index of the block.
+fn merge_row(
+    rt: &impl Abort,
+    alloc: Global,
+    segment: &mut RamSegment,
+    row: &Merge,
+) -> Result<u8, AllocError> {
+    let (block, from, count, fill, ..) = *row;
+    assert!(rt; from < 8 && 1 <= count && count <= 8 - from);
+    merge(rt, alloc, segment, block, from, count, fill)
+}
+
+/// The segment has what the table says after a merge.
+fn is_merged(rt: &impl Abort, segment: &RamSegment, held: &mut Held, row: &Merge, index: u8) {
+    let (block, _, _, _, wanted, len, bytes) = *row;
+    assert!(rt; index == wanted);
+    assert!(rt; segment.len() == len);
+    assert!(rt; segment.spare() == ROOM.saturating_sub(len));
+    assert!(rt; block < BLOCKS);
+    held[block] = bytes;
+    assert!(rt; holds(segment, held));
+}
+
+/// Merges the writes of the table into an empty segment.
+fn merge_rows(rt: &impl Abort, alloc: Global, segment: &mut RamSegment) -> Result<(), AllocError> {
+    let mut held = [[0; 8]; BLOCKS];
+    assert!(rt; segment.id() == 5 && segment.spare() == ROOM && holds(segment, &held));
+    for row in &MERGES {
+        let index = merge_row(rt, alloc, segment, row)?;
+        is_merged(rt, segment, &mut held, row, index);
+    }
+    Ok(())
+}
+
+/// The segment of the table is sealed.
+fn is_sealed(rt: &impl Abort, sealed: &Sealed) {
+    assert!(rt; sealed.id() == 5);
+    assert!(rt; sealed.len() == 3);
+    for (index, block, bits) in [(0, 7, 0x9f), (1, 9, 0xff), (2, 0, 0x01)] {
+        assert!(rt;
+            index < 3 && sealed.meta(index) == Meta { block, bits },
+            "at {index}"
+        );
+    }
+}
+
+/// A segment has another id, and nothing of the former one but its room.
+fn is_used_again(rt: &impl Abort, segment: &RamSegment) {
+    assert!(rt; segment.id() == 6);
+    assert!(rt; segment.len() == 0);
+    assert!(rt; segment.spare() == ROOM);
+    assert!(rt; holds(segment, &[[0; 8]; BLOCKS]));
+}
+
+#[test]
+fn writes_are_merged_by_block(rt: HostRuntime) -> Result<(), AllocError> {
+    let mut segment = RamSegment::new(rt.alloc(), 5, ROOM)?;
+    merge_rows(&rt, rt.alloc(), &mut segment)?;
     assert!(rt; segment.len() != 0);
     let sealed = segment.seal();
-    assert_eq!(rt; sealed.id(), 5);
-    assert_eq!(rt; sealed.len(), 3);
-    assert_eq!(rt;
-        sealed.meta(0),
-        Meta {
-            block: 7,
-            bits: 0x9f
-        }
-    );
-    assert_eq!(rt;
-        sealed.meta(1),
-        Meta {
-            block: 9,
-            bits: 0xff
-        }
-    );
-    assert_eq!(rt;
-        sealed.meta(2),
-        Meta {
-            block: 0,
-            bits: 0x01
-        }
-    );
-
+    is_sealed(&rt, &sealed);
     let blocks = sealed.into_blocks();
-    assert_eq!(rt; blocks.capacity(), ROOM);
+    assert!(rt; blocks.capacity() == ROOM);
     let again = RamSegment::again(6, blocks);
-    assert_eq!(rt; again.id(), 6);
-    assert_eq!(rt; again.len(), 0);
-    assert_eq!(rt; again.spare(), ROOM);
-    assert!(rt; holds(&again, &[[0; 8]; BLOCKS]));
+    is_used_again(&rt, &again);
+    Ok(())
+}
+
+/// Merges two writes of one block, for which alone there is room.
+fn merge_twice(rt: &impl Abort, alloc: Global, segment: &mut RamSegment) -> Result<(), AllocError> {
+    let first = written(alloc, 0, 1, 0x10)?;
+    assert!(rt; first.bits != 0 && segment.spare() != 0);
+    assert!(rt; segment.merge(u64::MAX, first) == 0);
+    assert!(rt; segment.spare() == 0);
+    let second = written(alloc, 1, 1, 0x20)?;
+    assert!(rt; second.bits != 0);
+    assert!(rt; segment.merge(u64::MAX, second) == 0);
+    assert!(rt; holds_block(segment, u64::MAX, &[0x10, 0x21, 0, 0, 0, 0, 0, 0]));
     Ok(())
 }
 
 #[test]
-fn a_full_segment_takes_a_write_of_its_block(rt: HostRuntime) -> Result<(), Fail> {
+fn a_full_segment_takes_a_write_of_its_block(rt: HostRuntime) -> Result<(), AllocError> {
     let mut segment = RamSegment::new(rt.alloc(), 1, 1)?;
-    let first = written(rt.alloc(), 0, 1, 0x10)?;
-    let second = written(rt.alloc(), 1, 1, 0x20)?;
-    assert!(rt; first.bits != 0 && second.bits != 0);
-    assert_eq!(rt; segment.merge(u64::MAX, first), 0);
-    assert_eq!(rt; segment.spare(), 0);
-    assert_eq!(rt; segment.merge(u64::MAX, second), 0);
-    assert!(rt; holds_block(&segment, u64::MAX, &[0x10, 0x21, 0, 0, 0, 0, 0, 0]));
-    Ok(())
+    merge_twice(&rt, rt.alloc(), &mut segment)
+}
+
+/// Whether a segment has no block yet, and room for as many as one may have.
+fn has_most_room(segment: &RamSegment) -> bool {
+    segment.len() == 0 && segment.spare() == 127
 }
 
 #[test]
-fn a_large_vector_gives_room_for_127_blocks(rt: HostRuntime) -> Result<(), Fail> {
+fn a_large_vector_gives_room_for_127_blocks(rt: HostRuntime) -> Result<(), AllocError> {
     let segment = RamSegment::again(1, Vec::with_capacity(rt.alloc(), 200)?);
-    assert_eq!(rt; segment.len(), 0);
-    assert_eq!(rt; segment.spare(), 127);
+    assert!(rt; has_most_room(&segment));
     Ok(())
 }
 
@@ -180,22 +226,37 @@ fn note(bytes: &mut [u8; 8], from: u8, count: u8, fill: u8)
     }
 }
 
-#[test]
-fn many_merges_leave_what_was_written_last(rt: HostRuntime) -> Result<(), Fail> {
-    let mut segment = RamSegment::new(rt.alloc(), 1, ROOM)?;
+/// Merges a write that is drawn, after which the segment has what was written last.
+fn merge_drawn(
+    rt: &impl Abort,
+    alloc: Global,
+    segment: &mut RamSegment,
+    held: &mut Held,
+    state: &mut u64,
+) -> Result<(), AllocError> {
+    let block = usize::from(next(state, BLOCKS as u8));
+    let from = next(state, 8);
+    let count = 1 + next(state, 8 - from);
+    let fill = 1 + next(state, 240);
+    merge(rt, alloc, segment, block, from, count, fill)?;
+    note(&mut held[block], from, count, fill);
+    assert!(rt; holds(segment, held));
+    Ok(())
+}
+
+/// Merges many writes that are drawn.
+fn merge_many(rt: &impl Abort, alloc: Global, segment: &mut RamSegment) -> Result<(), AllocError> {
     let mut held = [[0; 8]; BLOCKS];
     let mut state = 20;
     for _ in 0..400 {
-        let block = next(&mut state, BLOCKS as u8);
-        let from = next(&mut state, 8);
-        let count = 1 + next(&mut state, 8 - from);
-        let fill = 1 + next(&mut state, 240);
-        let payload = written(rt.alloc(), from, count, fill)?;
-        assert!(rt; payload.bits != 0 && segment.spare() != 0);
-        segment.merge(block.into(), payload);
-        note(&mut held[usize::from(block)], from, count, fill);
-        assert!(rt; holds(&segment, &held));
+        merge_drawn(rt, alloc, segment, &mut held, &mut state)?;
     }
-    assert_eq!(rt; segment.len(), BLOCKS);
+    assert!(rt; segment.len() == BLOCKS);
     Ok(())
+}
+
+#[test]
+fn many_merges_leave_what_was_written_last(rt: HostRuntime) -> Result<(), AllocError> {
+    let mut segment = RamSegment::new(rt.alloc(), 1, ROOM)?;
+    merge_many(&rt, rt.alloc(), &mut segment)
 }

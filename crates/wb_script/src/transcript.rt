@@ -137,43 +137,53 @@ fn repeats_front(bytes: &[u8], n: usize) -> bool
 #[cfg(test)]
 mod tests {
     use super::*;
+    use std::process::Abort;
     use std::test::Fail;
+
+    /// Bytes, the pattern that is repeated, and how often the bytes are repeated.
+    const PATTERNS: [(&[u8], &[u8], usize); 6] = [
+        (b"\xaa", b"\xaa", 512),
+        (b"\xaa\xbb", b"\xaa\xbb", 256),
+        (b"abab", b"ab", 128),
+        (b"a", b"a", 1),
+        (b"aaab", b"aaab", 1),
+        // the same 3 bytes further on, and no number of times 3 bytes
+        (b"abaab", b"abaab", 1),
+    ];
+
+    /// Of these bytes this pattern is kept.
+    fn keeps(rt: &impl Abort, alloc: Global, bytes: &[u8], pattern: &[u8]) -> Result<(), Fail> {
+        assert!(rt; !bytes.is_empty());
+        let shown = Shown::of(alloc, bytes)?;
+        assert_eq!(rt; shown.pattern(), pattern);
+        Ok(())
+    }
+
+    fn repeated(alloc: Global, bytes: &[u8], count: usize) -> Result<Vec<u8>, AllocError> {
+        let mut all = Vec::new(alloc);
+        for _ in 0..count {
+            all.extend_from_slice(bytes)?;
+        }
+        Ok(all)
+    }
 
     #[test]
     fn the_shortest_pattern_is_kept(rt: HostRuntime) -> Result<(), Fail> {
-        let alloc = rt.alloc();
-        let rows: [(&[u8], &[u8], usize); 6] = [
-            // bytes, the pattern that is repeated, and how often
-            (b"\xaa", b"\xaa", 512),
-            (b"\xaa\xbb", b"\xaa\xbb", 256),
-            (b"abab", b"ab", 128),
-            (b"a", b"a", 1),
-            (b"aaab", b"aaab", 1),
-            // the same 3 bytes further on, and no number of times 3 bytes
-            (b"abaab", b"abaab", 1),
-        ];
-        for (bytes, pattern, count) in rows {
-            let mut all = Vec::new(alloc);
-            for _ in 0..count {
-                all.extend_from_slice(bytes)?;
-            }
-            assert!(rt; !all.is_empty());
-            let shown = Shown::of(alloc, &all)?;
-            assert_eq!(rt; shown.pattern(), pattern);
+        for (bytes, pattern, count) in &PATTERNS {
+            let all = repeated(rt.alloc(), bytes, *count)?;
+            keeps(&rt, rt.alloc(), &all, pattern)?;
         }
         Ok(())
     }
 
     #[test]
     fn bytes_that_do_not_repeat_are_kept_whole(rt: HostRuntime) -> Result<(), Fail> {
-        let alloc = rt.alloc();
         let mut three = [0xaa; 1536];
         three[512..1024].fill(0xbb);
         three[1024..].fill(0xcc);
-        assert_eq!(rt; Shown::of(alloc, &three)?.pattern(), three.as_slice());
+        keeps(&rt, rt.alloc(), &three, &three)?;
         let mut last = [0xaa; 512];
         last[511] = 0xbb;
-        assert_eq!(rt; Shown::of(alloc, &last)?.pattern(), last.as_slice());
-        Ok(())
+        keeps(&rt, rt.alloc(), &last, &last)
     }
 }

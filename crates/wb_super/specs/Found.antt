@@ -1,5 +1,5 @@
 -- What reading the superblock of a log device answers. What it says of the bytes holds where the device tells them.
-use Rattle.std.specs.Prelude.{ℕ, ◌≡◌, ◌≢◌, ◌⊎◌, ◌<◌, ◌≤◌, ◌^◌, IfSome, Some, false, []}
+use Rattle.std.specs.Prelude.{ℕ, ◌≡◌, ◌≢◌, ◌⊎◌, ◌<◌, ◌≤◌, ◌^◌, IfSome, Some, []}
 use Rattle.wb_geometry.specs.Image.{Image}
 use Rattle.wb_geometry.specs.Layout.{log_sectors}
 use Rattle.wb_geometry.specs.Device.{State, next_count}
@@ -67,7 +67,7 @@ telling sectors x = record {
   leaves_now = λ _. ⊥;
   left_since = λ _ _. ⊥;
   moment = [];
-  tells_images = false;
+  tells_images = ⊥;
   faults = 0;
   syncs = 0;
   reads = 0;

@@ -2,7 +2,8 @@
 ghost use Rattle.std.specs.Prelude.{◌≤◌, ◌<◌, ◌≢◌};
 
 use crate::{Lookup, Spot};
-use std::alloc::AllocError;
+use std::alloc::{AllocError, Global};
+use std::process::Abort;
 
 /// The blocks of the runs.
 const BLOCKS: usize = 6;
@@ -109,70 +110,99 @@ fn step(lookup: &mut Lookup, plain: &mut Plain, drawn: u64, newest: u64, back: u
     }
 }
 
+/// A run of the table and the array, which begins with this number.
+fn run(rt: &impl Abort, lookup: &mut Lookup, plain: &mut Plain, first: u64, back: u64) {
+    let mut seed = first;
+    for turn in 0..400 {
+        let drawn = draw(&mut seed);
+        step(lookup, plain, drawn, 1 + turn / 2, back);
+        assert!(rt; agrees(lookup, plain), "seed {first}, step {turn}");
+    }
+}
+
+/// A run of a new table and a new array.
+fn run_anew(rt: &impl Abort, alloc: Global, first: u64, back: u64) -> Result<(), AllocError> {
+    let mut lookup = Lookup::new(alloc, ROOM)?;
+    let mut plain = Plain {
+        spots: [NOWHERE; 8 * BLOCKS],
+    };
+    run(rt, &mut lookup, &mut plain, first, back);
+    Ok(())
+}
+
 #[test]
 fn a_table_answers_as_an_array(rt: HostRuntime) -> Result<(), AllocError> {
     for (first, back) in [(1, 0), (2, 0), (3, 9), (4, 30)] {
-        let mut seed: u64 = first;
-        let mut lookup = Lookup::new(rt.alloc(), ROOM)?;
-        let mut plain = Plain {
-            spots: [NOWHERE; 8 * BLOCKS],
-        };
-        for turn in 0..400 {
-            let drawn = draw(&mut seed);
-            step(&mut lookup, &mut plain, drawn, 1 + turn / 2, back);
-            assert!(rt; agrees(&lookup, &plain), "seed {first}, step {turn}");
-        }
+        run_anew(&rt, rt.alloc(), first, back)?;
     }
     Ok(())
+}
+
+/// A segment is forgotten, and then noted in.
+fn note_again(rt: &impl Abort, lookup: &mut Lookup) {
+    let first = Spot { id: 3, index: 1 };
+    assert!(rt; note(lookup, 7, 0b0000_0001, first));
+    lookup.forget_through(5);
+    assert!(rt; !lookup.has(7));
+    assert!(rt; lookup.find(7) == [NOWHERE; 8]);
+
+    let again = Spot { id: 4, index: 2 };
+    assert!(rt; note(lookup, 7, 0b1000_0000, again));
+    let later = Spot { id: 9, index: 3 };
+    assert!(rt; note(lookup, 7, 0b0000_0010, later));
+    let stray = Spot { id: 2, index: 4 };
+    assert!(rt; note(lookup, 7, 0b0000_0100, stray));
+
+    forget_again(rt, lookup, again, later);
+}
+
+/// The segments of block 7 are forgotten one after another.
+fn forget_again(rt: &impl Abort, lookup: &mut Lookup, again: Spot, later: Spot) {
+    lookup.forget_through(2);
+    let mut spots = [NOWHERE; 8];
+    spots[1] = later;
+    spots[7] = again;
+    assert!(rt; lookup.find(7) == spots);
+    lookup.forget_through(8);
+    spots[7] = NOWHERE;
+    assert!(rt; lookup.find(7) == spots);
+    lookup.forget_through(9);
+    assert!(rt; !lookup.has(7));
+    assert!(rt; lookup.spare() == 2);
 }
 
 #[test]
 fn a_note_in_a_forgotten_segment_counts(rt: HostRuntime) -> Result<(), AllocError> {
     let mut lookup = Lookup::new(rt.alloc(), 2)?;
-    let first = Spot { id: 3, index: 1 };
-    assert!(rt; note(&mut lookup, 7, 0b0000_0001, first));
-    lookup.forget_through(5);
-    assert!(rt; !lookup.has(7));
-    assert_eq!(rt; lookup.find(7), [NOWHERE; 8]);
-
-    let again = Spot { id: 4, index: 2 };
-    assert!(rt; note(&mut lookup, 7, 0b1000_0000, again));
-    let later = Spot { id: 9, index: 3 };
-    assert!(rt; note(&mut lookup, 7, 0b0000_0010, later));
-    let stray = Spot { id: 2, index: 4 };
-    assert!(rt; note(&mut lookup, 7, 0b0000_0100, stray));
-
-    lookup.forget_through(2);
-    let mut spots = [NOWHERE; 8];
-    spots[1] = later;
-    spots[7] = again;
-    assert_eq!(rt; lookup.find(7), spots);
-    lookup.forget_through(8);
-    spots[7] = NOWHERE;
-    assert_eq!(rt; lookup.find(7), spots);
-    lookup.forget_through(9);
-    assert!(rt; !lookup.has(7));
-    assert_eq!(rt; lookup.spare(), 2);
+    note_again(&rt, &mut lookup);
     Ok(())
 }
 
-#[test]
-fn a_table_has_its_room_again_and_again(rt: HostRuntime) {
-    let room: u64 = 1000;
-    let made = Lookup::new(rt.alloc(), 1000);
-    assert!(rt; made.is_ok());
-    let Ok(mut lookup) = made else {
-        return;
-    };
-    for id in 1..6 {
-        for block in 0..room {
-            let spot = Spot { id, index: 0 };
-            assert!(rt; note(&mut lookup, id * room + block, 0xff, spot));
-        }
-        assert_eq!(rt; lookup.spare(), 0);
-        assert!(rt; !note(&mut lookup, 0, 0xff, Spot { id, index: 0 }));
-        lookup.forget_through(id);
-        assert_eq!(rt; lookup.spare(), 1000);
+/// Fills a table with 1000 blocks of a segment, finds no room for one more, and forgets them.
+fn fill(rt: &impl Abort, lookup: &mut Lookup, id: u64)
+    requires { 1 ≤ id }
+{
+    for block in 0..1000 {
+        let number = id.wrapping_mul(1000).wrapping_add(block);
+        assert!(rt; note(lookup, number, 0xff, Spot { id, index: 0 }));
     }
-    assert!(rt; Lookup::new(rt.alloc(), usize::MAX).is_err());
+    assert!(rt; lookup.spare() == 0);
+    assert!(rt; !note(lookup, 0, 0xff, Spot { id, index: 0 }));
+    lookup.forget_through(id);
+    assert!(rt; lookup.spare() == 1000);
+}
+
+/// Whether there is no memory for so large a table.
+fn is_too_large(alloc: Global) -> bool {
+    Lookup::new(alloc, usize::MAX).is_err()
+}
+
+#[test]
+fn a_table_has_its_room_again_and_again(rt: HostRuntime) -> Result<(), AllocError> {
+    let mut lookup = Lookup::new(rt.alloc(), 1000)?;
+    for id in 1..6 {
+        fill(&rt, &mut lookup, id);
+    }
+    assert!(rt; is_too_large(rt.alloc()));
+    Ok(())
 }

@@ -1,8 +1,9 @@
 //! What reading a superblock answers: each cause to refuse it, alone and beside the next one, so that the order is seen.
-use crate::{SuperRefused, read_super};
+use super::{NOTHING, Planned, device_of, plan_of};
+use crate::{Super, SuperRefused, read_super};
 use std::alloc::{AllocError, Global};
+use std::process::Abort;
 use std::test::Fail;
-use wb_device::{FaultPlan, MemoryDevice, PlannedFault};
 use wb_geometry::Geometry;
 use wb_sum::Sum;
 
@@ -21,7 +22,9 @@ enum Flaw {
 }
 
 // The flaws of a log, and what is answered.
-const ROWS: [(Flaw, Option<Flaw>, SuperRefused); 17] = [
+type Row = (Flaw, Option<Flaw>, SuperRefused);
+
+const ROWS: [Row; 17] = [
     (Flaw::NoFront, None, NO_FRONT),
     (Flaw::NoFront, Some(Flaw::FirstRead), NO_FRONT),
     (Flaw::FirstRead, None, SuperRefused::Fault),
@@ -90,56 +93,90 @@ impl Flawed {
         if self.has(flaw) { bad } else { good }
     }
 
-    // A log of two segments in memory and eight backing sectors.
-    fn image(self, alloc: Global) -> Result<Vec<u8>, AllocError> {
-        let mut bytes = b"WBLOG\0\0".to_vec(alloc)?;
-        bytes.push(self.pick(Flaw::BadMagic, 1, 0))?;
+    // The fields of a log of two segments in memory and eight backing sectors.
+    fn fields(self) -> [u8; 32] {
         let version: u32 = self.pick(Flaw::BadVersion, 2, 1);
-        bytes.extend_from_slice(&version.to_le_bytes())?;
         let order: u32 = self.pick(Flaw::BadGeometry, 3, 4);
-        bytes.extend_from_slice(&order.to_le_bytes())?;
         let slots: u32 = self.pick(Flaw::FewSectors, 300, 2);
-        bytes.extend_from_slice(&slots.to_le_bytes())?;
-        bytes.extend_from_slice(&[2, 0, 0, 0])?;
-        bytes.extend_from_slice(&[8, 0, 0, 0, 0, 0, 0, 0])?;
+        let mut fields = [0; 32];
+        fields[..7].copy_from_slice(b"WBLOG\0\0");
+        fields[7] = self.pick(Flaw::BadMagic, 1, 0);
+        fields[8..12].copy_from_slice(&version.to_le_bytes());
+        fields[12..16].copy_from_slice(&order.to_le_bytes());
+        fields[16..20].copy_from_slice(&slots.to_le_bytes());
+        fields[20] = 2;
+        fields[24] = 8;
+        fields
+    }
+
+    // The checksum behind the fields.
+    fn stored(self, fields: &[u8]) -> [u8; 4] {
         let mut sum = Sum::new();
-        sum.update(bytes.as_slice());
+        sum.update(fields);
         let stored = sum.finish().wrapping_add(self.pick(Flaw::BadSum, 1, 0));
-        bytes.extend_from_slice(&stored.to_le_bytes())?;
-        bytes.resize(2047 * 512, 0)?;
+        stored.to_le_bytes()
+    }
+
+    // The record.
+    fn recorded(self) -> [u8; 8] {
         let recorded: u64 = self.pick(Flaw::BadRecord, (1 << 62) + 1, 1 << 62);
-        bytes.extend_from_slice(&recorded.to_le_bytes())?;
-        bytes.resize(self.pick(Flaw::NoFront, 2047 * 512, 2080 * 512), 0)?;
+        recorded.to_le_bytes()
+    }
+
+    // The bytes of the log.
+    fn image(self, alloc: Global) -> Result<Vec<u8>, AllocError> {
+        let fields = self.fields();
+        let size = self.pick(Flaw::NoFront, 2047 * 512, 2080 * 512);
+        let mut bytes = vec![in alloc; 0; size]?;
+        put(bytes.as_mut_slice(), 0, &fields);
+        put(bytes.as_mut_slice(), 32, &self.stored(&fields));
+        put(bytes.as_mut_slice(), 2047 * 512, &self.recorded());
         Ok(bytes)
     }
 
-    fn device(self, alloc: Global) -> Result<MemoryDevice, AllocError> {
-        let mut faults = Vec::new(alloc);
+    // The call that fails.
+    fn planned(self) -> Planned {
         if self.has(Flaw::FirstRead) {
-            faults.push(PlannedFault {
-                call: 0,
-                sectors: 0,
-            })?;
+            return plan_of(Some((0, 0)), None);
         }
         if self.has(Flaw::SecondRead) {
-            faults.push(PlannedFault {
-                call: 1,
-                sectors: 0,
-            })?;
+            return plan_of(Some((1, 0)), None);
         }
-        MemoryDevice::of(alloc, self.image(alloc)?, FaultPlan { faults, stop: None })
+        NOTHING
+    }
+
+    // What is found of the log.
+    fn found(self, alloc: Global) -> Result<Result<Super, SuperRefused>, AllocError> {
+        let bytes = self.image(alloc)?;
+        let mut log = device_of(alloc, bytes.as_slice(), &self.planned())?;
+        Ok(read_super(&mut log))
     }
 }
 
+// Puts these bytes over those from `start` on, as far as there are any.
+fn put(bytes: &mut [u8], start: usize, text: &[u8]) {
+    for (place, byte) in bytes.iter_mut().skip(start).zip(text) {
+        *place = *byte;
+    }
+}
+
+// A log is refused for the cause of a row.
+fn is_refused(rt: &impl Abort, found: &Result<Super, SuperRefused>, row: &Row) {
+    let (first, second, refused) = *row;
+    assert!(rt;
+        *found == Err(refused),
+        "with {first:?} {second:?}: {found:?}"
+    );
+}
+
 #[test]
-fn the_first_cause_is_told(rt: HostRuntime) -> Result<(), Fail> {
-    for (first, second, refused) in ROWS {
+fn the_first_cause_is_told(rt: HostRuntime) -> Result<(), AllocError> {
+    for row in &ROWS {
         let flawed = Flawed {
-            first: Some(first),
-            second,
+            first: Some(row.0),
+            second: row.1,
         };
-        let found = read_super(&mut flawed.device(rt.alloc())?);
-        assert_eq!(rt; found, Err(refused), "with {first:?} {second:?}");
+        is_refused(&rt, &flawed.found(rt.alloc())?, row);
     }
     Ok(())
 }
@@ -150,9 +187,11 @@ fn a_good_log_tells_its_geometry_and_record(rt: HostRuntime) -> Result<(), Fail>
         first: None,
         second: None,
     };
-    let found = read_super(&mut good.device(rt.alloc())?)?;
-    assert_eq!(rt; found.version, 1);
-    assert_eq!(rt; found.geometry, Geometry::new(4, 2, 2, 8)?);
-    assert_eq!(rt; found.recorded, 1 << 62);
+    let wanted = Super {
+        version: 1,
+        geometry: Geometry::new(4, 2, 2, 8)?,
+        recorded: 1 << 62,
+    };
+    assert!(rt; good.found(rt.alloc())? == Ok(wanted));
     Ok(())
 }

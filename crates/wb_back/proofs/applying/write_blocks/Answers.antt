@@ -8,8 +8,8 @@ use Rattle.wb_back.proofs.Planning.{entry_there, entries_end, block_inside}
 use Rattle.wb_back.proofs.Writing.{put_crash, put_stopped, put_more, put_whole, puts_whole}
 use Rattle.wb_back.proofs.applying.write_blocks.Goals as goal
 
-pub write_block-requires : goal.write_block-requires
-write_block-requires g c =
+pub write_block-requires-clause-room : goal.write_block-requires-clause-room
+write_block-requires-clause-room g c =
     let room = block_inside c.deref-one-items.result.now c.plan.inside.planned.items c.plan.inside.payloads.items c.args.plan.now c.loop-one.one-index (g.B.Device.state c.args.backing.now).sectors
     c.deref-one-items.ensures.value c.plan.view_is c.requires c.loop-one-test.true in
     omega (arith, room, c.loop-one.invariant.same.size)

@@ -1,5 +1,10 @@
-use Rattle.wb_geometry.proofs.Blocks.{ones_shifted}
+use Rattle.std.proofs.Common.{◌≢◌, subst, sym, ℕ}
+use Rattle.wb_geometry.proofs.Blocks.{ones_shifted, part_is_dirty}
 use Rattle.wb_geometry.proofs.block.dirty_bits.Goals as goal
 
-pub returns : goal.returns
-returns c = ones_shifted c.args.from c.args.count c.requires.some c.requires.inside
+pub returns-clause-bits : goal.returns-clause-bits
+returns-clause-bits c = ones_shifted c.args.from c.args.count c.requires.some c.requires.inside
+
+pub returns-clause-dirty : goal.returns-clause-dirty
+returns-clause-dirty c =
+    subst (λ n. n ≢ 0) (sym (ones_shifted c.args.from c.args.count c.requires.some c.requires.inside)) (part_is_dirty c.args.from c.args.count c.requires.some)

@@ -1,7 +1,7 @@
 -- The sectors of the runs so far are written, and no call failed.
 use Rattle.std.proofs.Common.{◌-◌, ◌≤◌}
-use Rattle.wb_back.proofs.Writing.{IsBegun}
-use Rattle.wb_back.proofs.applying.write_block.Given as goal
+use Rattle.wb_runs.proofs.Written.{IsBegun}
+use Rattle.wb_runs.proofs.writing.write_block.Given as goal
 
 abbrev pub invariant-loop-first : goal.invariant-loop-first
 invariant-loop-first g l = record {

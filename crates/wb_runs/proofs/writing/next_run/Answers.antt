@@ -1,8 +1,8 @@
 -- The lowest set bit begins the run, and the ones from there on are it.
 use Rattle.std.proofs.Common.{◌≡◌, ◌≢◌, ◌+◌, ◌/◌, ◌^◌, ◌<◌, ℕ, sym, ap, ◌∙◌, arith}
 use Rattle.std.specs.Int.{w16, trailing_zeros, trailing_ones}
-use Rattle.wb_back.proofs.Runs.{none_left, first_below, run_left}
-use Rattle.wb_back.proofs.applying.next_run.Goals as goal
+use Rattle.wb_runs.proofs.Runs.{none_left, first_below, run_left}
+use Rattle.wb_runs.proofs.writing.next_run.Goals as goal
 
 pub returns-then-rest-eq0 : goal.returns-then-rest-eq0
 returns-then-rest-eq0 c = none_left c.args.bits c.args.from (ap (λ (n : ℕ). n / 2 ^ c.args.from) (sym c.from.ensures) ∙ c.if-rest-eq0.true)
