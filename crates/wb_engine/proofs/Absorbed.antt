@@ -20,13 +20,13 @@ use Rattle.wb_header.specs.Text.{TextBlock}
 use Rattle.wb_header.specs.Segments.{Segment}
 use Rattle.wb_header.specs.Standing.{StandsFor}
 use Rattle.wb_header.proofs.Standings.{stands_none}
+use Rattle.wb_log.specs.Kept.{Kept}
 use Rattle.wb_engine.specs.Memory.{MemoryContent, live}
-use Rattle.wb_engine.specs.Content.{EngineContent, IsEngine, IsInsideBacking, limit_of}
-use Rattle.wb_engine.specs.Standing.{Standing, MayCome, Fits, Keeps, blocks_of, IsNextOpened, IsSealedIfFull, numbers_at}
-use Rattle.wb_engine.specs.declared.numbers.Numbers.{Numbers}
+use Rattle.wb_engine.specs.Content.{EngineContent, IsEngine, IsInsideBacking, AreMetasInside, limit_of}
+use Rattle.wb_engine.specs.Standing.{Standing, IsSynced, MayCome, Fits, Keeps, blocks_of, IsNextOpened, IsSealedIfFull, numbers_at}
+use Rattle.wb_crash.specs.declared.numbers.Numbers.{Numbers}
 use Rattle.wb_engine.proofs.Held.{AreInTurn, turn_front, turn_last, turn_push}
 use Rattle.wb_engine.proofs.Absorptions.{standing_pushed, standing_sealed}
-use Rattle.wb_engine.proofs.Engines.{takes}
 
 -- ---- one place more
 
@@ -132,7 +132,6 @@ module _ {L B : Type 0} where
       record {
         ordered = is.ordered;
         up = is.up;
-        level = is.level;
         log_room = is.log_room;
         backing_room = is.backing_room;
         filled = record {
@@ -145,11 +144,15 @@ module _ {L B : Type 0} where
         memory = record {
           places = keeps.places ∙ is.memory.places;
           segments = keeps.segments ∙ is.memory.segments;
+          slots = ap (λ (k : Kept). k.slots) keeps.logged ∙ is.memory.slots;
           count = ap length keeps.sealed ∙ is.memory.count;
           ids = subst (AreInTurn e.numbers.logged) (sym now)
               (turn_push e.numbers.logged e.memory.sealed m.current (turn_front e.numbers.logged e.memory.sealed e.memory.current is.memory.ids) (id_kept e log backing come m is keeps));
           inside = subst (All (IsInsideBacking e.geometry)) (sym now)
               (All-push (IsInsideBacking e.geometry) e.memory.sealed m.current (inside_sealed e log backing is) (inside_kept e log backing come m is may keeps));
+          logged_count = ap (λ (k : Kept). length k.kept) keeps.logged ∙ is.memory.logged_count;
+          logged_first = subst (λ (k : Kept). 1 ≤ length k.kept → k.first ≡ e.numbers.recorded + 1) (sym keeps.logged) is.memory.logged_first;
+          logged_inside = subst (λ (k : Kept). All (AreMetasInside e.geometry.backing_sectors) k.kept) (sym keeps.logged) is.memory.logged_inside;
         };
       }
 
@@ -160,6 +163,7 @@ module _ {L B : Type 0} where
   engine_sealed e log backing come m next numbers is may keeps full opened =
       let g : Geometry = e.geometry in
       let s : Segment = opened.segment in
+      let same_logged : next.logged ≡ e.memory.logged = opened.logged ∙ keeps.logged in
       let grown : next.sealed ≡ e.memory.sealed ++ s ∷ [] = opened.sealed ∙ ap (λ (segments : List Segment). segments ++ s ∷ []) keeps.sealed in
       let now : live next ≡ (e.memory.sealed ++ s ∷ []) ++ next.current ∷ [] = ap (λ (segments : List Segment). segments ++ next.current ∷ []) grown in
       let id : s.id ≡ e.numbers.logged + 1 + length e.memory.sealed = opened.id ∙ id_kept e log backing come m is keeps in
@@ -191,7 +195,6 @@ module _ {L B : Type 0} where
           ids = omega (arith, sealed_is, ids);
         };
         up = is.up;
-        level = is.level;
         log_room = is.log_room;
         backing_room = is.backing_room;
         filled = record {
@@ -204,9 +207,13 @@ module _ {L B : Type 0} where
         memory = record {
           places = opened.places ∙ keeps.places ∙ is.memory.places;
           segments = opened.segments ∙ keeps.segments ∙ is.memory.segments;
+          slots = ap (λ (k : Kept). k.slots) same_logged ∙ is.memory.slots;
           count = ap length grown ∙ count ∙ (omega (arith, is.memory.count, is.ordered.logged, is.ordered.tried));
           ids = subst (AreInTurn e.numbers.logged) (sym now) turn;
           inside = subst (All (IsInsideBacking g)) (sym now) inside;
+          logged_count = ap (λ (k : Kept). length k.kept) same_logged ∙ is.memory.logged_count;
+          logged_first = subst (λ (k : Kept). 1 ≤ length k.kept → k.first ≡ e.numbers.recorded + 1) (sym same_logged) is.memory.logged_first;
+          logged_inside = subst (λ (k : Kept). All (AreMetasInside g.backing_sectors) k.kept) (sym same_logged) is.memory.logged_inside;
         };
       })
 
@@ -236,20 +243,20 @@ module _ {L B : Type 0} where
     | inr not_full ↦ same.1 ∙ ap (λ (k : ℕ). record e.numbers { sealed = k }) (let s = is.filled.sealed in omega (arith, s, not_full.count))
   ]
 
-  pub standing_absorbed : {Shows : Image → Type 0} (e : EngineContent L B) (log backing : State) (come : Entry) (m next : MemoryContent) (numbers : Numbers) (base : Image) (h : List HistoryEntry)
-      → IsEngine e log backing → Keeps come e.memory m → IsSealedIfFull (e.absorbed + 1) (places e.geometry) e.numbers numbers m next
-      → Standing Shows e base h → Standing Shows (record e { absorbed = e.absorbed + 1; numbers = numbers; memory = next }) base (h ++ entered come ∷ [])
-  standing_absorbed {Shows} e log backing come m next numbers base h is keeps (inr same) stands =
-      let pushed = standing_pushed e m base h (entered come) (takes e log backing is) keeps.sealed keeps.id keeps.stands stands in
-      subst (λ (n : Numbers). Standing Shows (record e { absorbed = e.absorbed + 1; numbers = n; memory = next }) base (h ++ entered come ∷ [])) (sym same.1)
-      (subst (λ (k : MemoryContent). Standing Shows (record e { absorbed = e.absorbed + 1; memory = k }) base (h ++ entered come ∷ [])) (sym same.2) pushed)
-  standing_absorbed {Shows} e log backing come m next numbers base h is keeps (inl sealed) stands = elim (fills (places e.geometry) e.absorbed (places_few e.geometry).0) [
+  pub standing_absorbed : (e : EngineContent L B) (log backing : State) (come : Entry) (m next : MemoryContent) (numbers : Numbers) (base : Image) (h : List HistoryEntry)
+      → IsEngine e log backing → MayCome e come → Keeps come e.memory m → IsSealedIfFull (e.absorbed + 1) (places e.geometry) e.numbers numbers m next
+      → Standing e log backing base h → Standing (record e { absorbed = e.absorbed + 1; numbers = numbers; memory = next }) log backing base (h ++ entered come ∷ [])
+  standing_absorbed e log backing come m next numbers base h is may keeps (inr same) stands =
+      let pushed = standing_pushed e m log backing base h (entered come) is keeps.sealed keeps.id keeps.logged keeps.stands stands in
+      subst (λ (n : Numbers). Standing (record e { absorbed = e.absorbed + 1; numbers = n; memory = next }) log backing base (h ++ entered come ∷ [])) (sym same.1)
+      (subst (λ (k : MemoryContent). Standing (record e { absorbed = e.absorbed + 1; memory = k }) log backing base (h ++ entered come ∷ [])) (sym same.2) pushed)
+  standing_absorbed e log backing come m next numbers base h is may keeps (inl sealed) stands = elim (fills (places e.geometry) e.absorbed (places_few e.geometry).0) [
     | inr not_full ↦ absurd (omega (arith, sealed.0, not_full.rest))
     | inl full ↦
         let n : ℕ = places e.geometry in
         let now : List HistoryEntry = h ++ entered come ∷ [] in
         let opened = sealed.1 in
-        let pushed = standing_pushed e m base h (entered come) (takes e log backing is) keeps.sealed keeps.id keeps.stands stands in
+        let pushed = standing_pushed e m log backing base h (entered come) is keeps.sealed keeps.id keeps.logged keeps.stands stands in
         let behind : e.numbers.first + (e.absorbed + 1) / n + 1 ≡ next.current.id =
         omega (arith, opened.next_id, id_kept e log backing come m is keeps, is.memory.count, is.filled.sealed, full.count, is.ordered.logged, is.ordered.tried) in
         let none : segment n e.numbers.first now next.current.id ≡ [] =
@@ -257,9 +264,21 @@ module _ {L B : Type 0} where
         let empty : StandsFor next.current.blocks (segment n e.numbers.first now next.current.id) =
         subst (λ (b : List TextBlock). StandsFor b (segment n e.numbers.first now next.current.id)) (sym opened.next_blocks)
         (subst (StandsFor []) (sym none) stands_none) in
-        let done = standing_sealed (record e { absorbed = e.absorbed + 1; memory = m }) next opened.segment base now opened.sealed opened.id opened.blocks empty pushed in
-        subst (λ (k : Numbers). Standing Shows (record e { absorbed = e.absorbed + 1; numbers = k; memory = next }) base now) (sym opened.numbers_are) done
+        let ids : e.numbers.sealed + 1 ≤ 2 ^ 48 = omega (arith, is.filled.sealed, may.ids) in
+        let done = standing_sealed (record e { absorbed = e.absorbed + 1; memory = m }) next opened.segment log backing base now opened.sealed opened.id opened.blocks opened.logged ids empty pushed in
+        subst (λ (k : Numbers). Standing (record e { absorbed = e.absorbed + 1; numbers = k; memory = next }) log backing base now) (sym opened.numbers_are) done
   ]
+
+  -- a crash leaves what it left
+  pub synced_absorbed : (e : EngineContent L B) (log backing : State) (m next : MemoryContent) (numbers : Numbers)
+      → IsSealedIfFull (e.absorbed + 1) (places e.geometry) e.numbers numbers m next
+      → IsSynced e log backing → IsSynced (record e { absorbed = e.absorbed + 1; numbers = numbers; memory = next }) log backing
+  synced_absorbed e log backing m next numbers (inl sealed) is =
+      subst (λ (n : Numbers). IsSynced (record e { absorbed = e.absorbed + 1; numbers = n; memory = next }) log backing) (sym sealed.1.numbers_are)
+      (record { written_back = is.written_back; written = is.written })
+  synced_absorbed e log backing m next numbers (inr same) is =
+      subst (λ (n : Numbers). IsSynced (record e { absorbed = e.absorbed + 1; numbers = n; memory = next }) log backing) (sym same.1)
+      (record { written_back = is.written_back; written = is.written })
 
 -- ---- numbers that fit
 

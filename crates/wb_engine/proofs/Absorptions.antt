@@ -1,19 +1,25 @@
 -- An entry comes to an engine: what it stands for, with the entry behind.
-use Rattle.std.proofs.Common.{ℕ, suc, ◌≡◌, ◌+◌, ◌-◌, ◌*◌, ◌/◌, ◌%◌, ◌<◌, ◌≤◌, List, [], ◌∷◌, ◌++◌, length, ap, sym, ◌∙◌, subst, arith}
+use Rattle.std.proofs.Common.{ℕ, suc, ◌≡◌, ◌+◌, ◌-◌, ◌*◌, ◌/◌, ◌%◌, ◌^◌, ◌<◌, ◌≤◌, List, [], ◌∷◌, ◌++◌, length, refl, ap, sym, ◌∙◌, subst, arith}
 use Rattle.std.proofs.Math.Nat.{mul-suc, div-add-mod, mod-lt, mul-le-mul_left}
 use Rattle.std.proofs.lemmas.List.{length_push}
 use Rattle.wb_geometry.specs.Image.{Image}
+use Rattle.wb_geometry.specs.Device.{State}
 use Rattle.wb_geometry.specs.History.{HistoryEntry}
 use Rattle.wb_geometry.specs.Layout.{places}
-use Rattle.wb_geometry.specs.Line.{segment}
+use Rattle.wb_geometry.specs.Line.{Line, segment}
+use Rattle.wb_geometry.specs.declared.geometry.Geometry.{Geometry}
 use Rattle.wb_geometry.proofs.Geometries.{places_few}
 use Rattle.wb_geometry.proofs.Lines.{segment-kept, segment-push, segment-none}
 use Rattle.wb_header.specs.Segments.{Segment}
 use Rattle.wb_header.specs.Standing.{StandsFor}
-use Rattle.wb_engine.specs.Memory.{MemoryContent, live, segment_at}
-use Rattle.wb_engine.specs.Content.{EngineContent}
-use Rattle.wb_engine.specs.Standing.{Standing}
-use Rattle.wb_engine.proofs.Standings.{backing_image_grown}
+use Rattle.wb_log.specs.Kept.{Kept, metas_at}
+use Rattle.wb_crash.specs.Images.{IsOrdered, IsLogImage, IsBackingImage}
+use Rattle.wb_crash.specs.Safety.{IsSafe}
+use Rattle.wb_crash.specs.declared.numbers.Numbers.{Numbers}
+use Rattle.wb_crash.proofs.Lines.{engine_along, grown}
+use Rattle.wb_engine.specs.Memory.{MemoryContent, segment_at}
+use Rattle.wb_engine.specs.Content.{EngineContent, IsEngine}
+use Rattle.wb_engine.specs.Standing.{Standing, IsListed}
 use Rattle.wb_engine.proofs.Held.{AreHeld, AreInTurn, held_push, held_front, held_last, held_same, turn_front, turn_last}
 
 -- ---- places and segments
@@ -53,63 +59,103 @@ behind_none n first absorbed s h some size past =
 
 -- ---- an entry
 
--- What is needed of an engine whose open segment takes an entry.
-pub record Takes {L B : Type 0} (e : EngineContent L B) : Type 0 where
-  pub sealed : e.numbers.sealed ≡ e.numbers.first + e.absorbed / places e.geometry
-  pub start : e.numbers.first ≤ e.numbers.recorded
-  pub recorded : e.numbers.recorded ≤ e.numbers.back
-  pub back : e.numbers.back ≤ e.numbers.tried
-  pub logged : e.numbers.recorded ≤ e.numbers.logged
-  pub tried : e.numbers.tried ≤ e.numbers.sealed
-  pub count : e.numbers.logged + length e.memory.sealed ≡ e.numbers.sealed
-  pub turn : AreInTurn e.numbers.logged (live e.memory)
+-- the places of the segments that were begun are taken
+begun_full : (n first absorbed tried sealed : ℕ) → 1 ≤ n → tried ≤ sealed → sealed ≡ first + absorbed / n → n * (tried - first) ≤ absorbed
+begun_full n first absorbed tried sealed some few is =
+    let below : tried - first ≤ absorbed / n = omega arith in
+    omega (arith, mul-le-mul_left n below, places_before n absorbed some)
 
-module _ {L B : Type 0} {Shows : Image → Type 0} where
+-- what is kept of a segment in the log, of the same entries
+listed_same : (logged now : Kept) (s : ℕ) (old new : List HistoryEntry) → now ≡ logged → new ≡ old → IsListed (metas_at logged s) old → IsListed (metas_at now s) new
+listed_same logged now s old new same entries is =
+    subst (IsListed (metas_at now s)) (sym entries) (subst (λ (k : Kept). IsListed (metas_at k s) old) (sym same) is)
+
+-- the number of the last sealed segment says nothing of what the devices hold
+ordered_sealed : (g : Geometry) (e : Numbers) → e.sealed + 1 ≤ 2 ^ 48 → IsOrdered g e → IsOrdered g (record e { sealed = e.sealed + 1 })
+ordered_sealed g e ids is = record {
+  start = is.start;
+  recorded = is.recorded;
+  back = is.back;
+  stable = is.stable;
+  logged = is.logged;
+  tried = omega (arith, is.tried);
+  one = is.one;
+  room = is.room;
+  ids = ids;
+}
+
+log_sealed : (g : Geometry) (line : Line) (e : Numbers) (x : Image) → IsLogImage g line e x → IsLogImage g line (record e { sealed = e.sealed + 1 }) x
+log_sealed g line e x is = record { super = is.super; from = is.from; to = is.to; synced = is.synced; begun = is.begun; newest = is.newest }
+
+backs_sealed : (line : Line) (e : Numbers) (y : Image) → IsBackingImage line e y → IsBackingImage line (record e { sealed = e.sealed + 1 }) y
+backs_sealed line e y is = record { size = is.size; agrees = is.agrees }
+
+pub safe_sealed : {g : Geometry} {line : Line} {e : Numbers} {log backing : State} → e.sealed + 1 ≤ 2 ^ 48 → IsSafe g line e log backing
+    → IsSafe g line (record e { sealed = e.sealed + 1 }) log backing
+safe_sealed {g} {line} {e} ids safe = record {
+  ordered = ordered_sealed g e ids safe.ordered;
+  start = safe.start;
+  on_log = record { logged = safe.on_log.logged; shown = λ x shows. log_sealed g line e x (safe.on_log.shown x shows) };
+  on_backing = record { shown = λ y shows. backs_sealed line e y (safe.on_backing.shown y shows) };
+}
+
+module _ {L B : Type 0} where
   -- the open segment takes it
-  pub standing_pushed : (e : EngineContent L B) (m : MemoryContent) (base : Image) (h : List HistoryEntry) (entry : HistoryEntry) → Takes e
-      → m.sealed ≡ e.memory.sealed → m.current.id ≡ e.memory.current.id
+  pub standing_pushed : (e : EngineContent L B) (m : MemoryContent) (log backing : State) (base : Image) (h : List HistoryEntry) (entry : HistoryEntry) → IsEngine e log backing
+      → m.sealed ≡ e.memory.sealed → m.current.id ≡ e.memory.current.id → m.logged ≡ e.memory.logged
       → ((entries : List HistoryEntry) → StandsFor e.memory.current.blocks entries → StandsFor m.current.blocks (entries ++ entry ∷ []))
-      → Standing Shows e base h → Standing Shows (record e { absorbed = e.absorbed + 1; memory = m }) base (h ++ entry ∷ [])
-  standing_pushed e m base h entry takes sealed same_id step is =
+      → Standing e log backing base h → Standing (record e { absorbed = e.absorbed + 1; memory = m }) log backing base (h ++ entry ∷ [])
+  standing_pushed e m log backing base h entry is sealed same_id same_logged step stands =
       let n : ℕ = places e.geometry in
       let first : ℕ = e.numbers.first in
       let old : ℕ → List HistoryEntry = segment n first h in
       let new : ℕ → List HistoryEntry = segment n first (h ++ entry ∷ []) in
       let some : 1 ≤ n = (places_few e.geometry).0 in
+      let start : first ≤ e.numbers.logged = omega (arith, is.ordered.start, is.ordered.recorded, is.ordered.back, is.ordered.stable) in
+      let count : e.numbers.logged + length e.memory.sealed ≡ e.numbers.sealed = omega (arith, is.memory.count, is.ordered.logged, is.ordered.tried) in
       let kept : (s : ℕ) → first < s → s ≤ e.numbers.sealed → new s ≡ old s =
-      λ s above below. full_kept n first e.absorbed s h entry some is.places above (omega (arith, takes.sealed)) in
-      let fronts : AreHeld old e.memory.sealed = held_front old e.memory.sealed e.memory.current is.memory in
-      let turn : AreInTurn e.numbers.logged e.memory.sealed = turn_front e.numbers.logged e.memory.sealed e.memory.current takes.turn in
+      λ s above below. full_kept n first e.absorbed s h entry some stands.places above (omega (arith, is.filled.sealed)) in
+      let fronts : AreHeld old e.memory.sealed = held_front old e.memory.sealed e.memory.current stands.memory in
+      let turn : AreInTurn e.numbers.logged e.memory.sealed = turn_front e.numbers.logged e.memory.sealed e.memory.current is.memory.ids in
       let front : AreHeld new e.memory.sealed = held_same old new e.memory.sealed
       (λ j lt. kept (segment_at e.memory.sealed j).id
-      (omega (arith, turn j lt, takes.start, takes.logged))
-      (omega (arith, turn j lt, takes.count))) fronts in
-      let id : e.memory.current.id ≡ e.numbers.logged + 1 + length e.memory.sealed = turn_last e.numbers.logged e.memory.sealed e.memory.current takes.turn in
-      let here : m.current.id ≡ first + e.absorbed / n + 1 = omega (arith, id, same_id, takes.sealed, takes.count) in
+      (omega (arith, turn j lt, start))
+      (omega (arith, turn j lt, count))) fronts in
+      let id : e.memory.current.id ≡ e.numbers.logged + 1 + length e.memory.sealed = turn_last e.numbers.logged e.memory.sealed e.memory.current is.memory.ids in
+      let here : m.current.id ≡ first + e.absorbed / n + 1 = omega (arith, id, same_id, is.filled.sealed, count) in
       let last : StandsFor m.current.blocks (new m.current.id) =
-      subst (StandsFor m.current.blocks) (sym (next_pushed n first e.absorbed m.current.id h entry some is.places here))
-      (step (old m.current.id) (subst (λ (i : ℕ). StandsFor e.memory.current.blocks (old i)) (sym same_id) (held_last old e.memory.sealed e.memory.current is.memory))) in
+      subst (StandsFor m.current.blocks) (sym (next_pushed n first e.absorbed m.current.id h entry some stands.places here))
+      (step (old m.current.id) (subst (λ (i : ℕ). StandsFor e.memory.current.blocks (old i)) (sym same_id) (held_last old e.memory.sealed e.memory.current stands.memory))) in
+      let begun : n * (e.numbers.tried - first) ≤ e.absorbed = begun_full n first e.absorbed e.numbers.tried e.numbers.sealed some is.ordered.tried is.filled.sealed in
       record {
-        places = length_push h entry ∙ ap (λ (k : ℕ). k + 1) is.places;
+        told = stands.told;
+        places = length_push h entry ∙ ap (λ (k : ℕ). k + 1) stands.places;
         memory = subst (λ (segments : List Segment). AreHeld new (segments ++ m.current ∷ [])) (sym sealed) (held_push new e.memory.sealed m.current front last);
-        images = λ y shown. backing_image_grown n first base h (h ++ entry ∷ []) e.numbers y takes.start takes.back
-            (λ s above below. kept s above (omega (arith, takes.tried))) (is.images y shown);
+        logged = λ s low high.
+            listed_same e.memory.logged m.logged s (old s) (new s) same_logged
+            (kept s (omega (arith, low, is.ordered.start)) (omega (arith, high, is.ordered.logged, is.ordered.tried)))
+            (stands.logged s low high);
+        safe = engine_along (grown n first e.numbers.tried base h (entry ∷ []) (omega (arith, begun, stands.places))) stands.safe;
+        record_is = stands.record_is;
       }
 
   -- the open segment is full, and sealed
-  pub standing_sealed : (e : EngineContent L B) (m : MemoryContent) (s : Segment) (base : Image) (h : List HistoryEntry)
-      → m.sealed ≡ e.memory.sealed ++ s ∷ [] → s.id ≡ e.memory.current.id → s.blocks ≡ e.memory.current.blocks
+  pub standing_sealed : (e : EngineContent L B) (m : MemoryContent) (s : Segment) (log backing : State) (base : Image) (h : List HistoryEntry)
+      → m.sealed ≡ e.memory.sealed ++ s ∷ [] → s.id ≡ e.memory.current.id → s.blocks ≡ e.memory.current.blocks → m.logged ≡ e.memory.logged → e.numbers.sealed + 1 ≤ 2 ^ 48
       → StandsFor m.current.blocks (segment (places e.geometry) e.numbers.first h m.current.id)
-      → Standing Shows e base h → Standing Shows (record e { numbers = record e.numbers { sealed = e.numbers.sealed + 1 }; memory = m }) base h
-  standing_sealed e m s base h grown id blocks next is =
+      → Standing e log backing base h → Standing (record e { numbers = record e.numbers { sealed = e.numbers.sealed + 1 }; memory = m }) log backing base h
+  standing_sealed e m s log backing base h more id blocks same_logged ids next is =
       let list : ℕ → List HistoryEntry = segment (places e.geometry) e.numbers.first h in
       let fronts : AreHeld list e.memory.sealed = held_front list e.memory.sealed e.memory.current is.memory in
       let full : StandsFor s.blocks (list s.id) =
       subst (λ (i : ℕ). StandsFor s.blocks (list i)) (sym id)
       (subst (λ (b : List _). StandsFor b (list e.memory.current.id)) (sym blocks) (held_last list e.memory.sealed e.memory.current is.memory)) in
       record {
+        told = is.told;
         places = is.places;
-        memory = subst (λ (segments : List Segment). AreHeld list (segments ++ m.current ∷ [])) (sym grown)
+        memory = subst (λ (segments : List Segment). AreHeld list (segments ++ m.current ∷ [])) (sym more)
             (held_push list (e.memory.sealed ++ s ∷ []) m.current (held_push list e.memory.sealed s fronts full) next);
-        images = λ y shown. let was = is.images y shown in record { size = was.size; agrees = was.agrees };
+        logged = λ t low high. listed_same e.memory.logged m.logged t (list t) (list t) same_logged refl (is.logged t low high);
+        safe = safe_sealed ids is.safe;
+        record_is = is.record_is;
       }

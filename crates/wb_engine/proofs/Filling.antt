@@ -9,19 +9,10 @@ use Rattle.wb_geometry.specs.History.{HistoryEntry, Void}
 use Rattle.wb_geometry.specs.Layout.{places}
 use Rattle.wb_geometry.specs.declared.entry.Entry.TheVariants as entry
 use Rattle.wb_geometry.specs.declared.geometry.Geometry.{Geometry}
+use Rattle.wb_crash.specs.declared.numbers.Numbers.{Numbers}
 use Rattle.wb_engine.specs.Content.{EngineContent, IsEngine, limit_of}
-use Rattle.wb_engine.specs.Standing.{Standing, Told, IsSynced, IsOffDevices, MayCome, numbers_at}
-use Rattle.wb_engine.specs.declared.numbers.Numbers.{Numbers}
-
--- so many places were filled
-pub record IsFilling {L B : Type 0} (old now : EngineContent L B) (backing : State) (count : ℕ) : Type 0 where
-  pub kept : IsOffDevices old now
-  pub absorbed : now.absorbed ≡ old.absorbed + count
-  pub first : now.numbers.first ≡ old.numbers.first
-  pub recorded : now.numbers.recorded ≡ old.numbers.recorded
-  pub logged : now.numbers.logged ≡ old.numbers.logged
-  pub told : (base : Image) (h : List HistoryEntry) → Standing (Told backing) old base h → Standing (Told backing) now base (h ++ replicate count (Void 0))
-  pub synced : IsSynced old backing → IsSynced now backing
+use Rattle.wb_engine.specs.Standing.{Standing, IsSynced, IsOffDevices, MayCome, numbers_at}
+use Rattle.wb_engine.specs.Closing.{last_id}
 
 replicate_more : (count : ℕ) → replicate count (Void 0) ++ Void 0 ∷ [] ≡ replicate (count + 1) (Void 0)
 replicate_more count = replicate-append-replicate count 1 (Void 0)
@@ -50,20 +41,63 @@ whole_under n a bound some under = elim (cases_lt (a / n) bound) [
   | inr past ↦ absurd (omega (arith, div-add-mod a n, mul-le-mul_left n past))
 ]
 
-module _ {L B : Type 0} where
-  pub filling_none : (e : EngineContent L B) (backing : State) → IsFilling e e backing 0
-  filling_none e backing = record {
+-- ---- the last id
+
+-- where no place of the open segment is taken
+pub last_whole : (n a : ℕ) → 1 ≤ n → a % n ≡ 0 → (a + n - 1) / n ≡ a / n
+last_whole n a some none =
+    let parts : a + n - 1 ≡ n - 1 + n * (a / n) = omega (arith, div-add-mod a n, none, some) in
+    ap (λ (m : ℕ). m / n) parts ∙ add-mul-div_left (n - 1) (a / n) some ∙ omega (arith, div-eq_of_lt (let less : n - 1 < n = omega (arith, some) in less))
+
+-- where some are, and the others of the segment came
+pub last_filled : (n a k : ℕ) → 1 ≤ a % n → a % n + k ≡ n → (a + k) / n ≡ (a + n - 1) / n
+last_filled n a k some full =
+    let pos : 0 < n = omega (arith, full, some) in
+    let whole : a + k ≡ 0 + n * suc (a / n) = omega (arith, div-add-mod a n, mul-suc n (a / n), full) in
+    let parts : a + n - 1 ≡ a % n - 1 + n * suc (a / n) = omega (arith, div-add-mod a n, mul-suc n (a / n), some, pos) in
+    let less : a % n - 1 < n = omega (arith, full, some) in
+    ap (λ (m : ℕ). m / n) whole ∙ add-mul-div_left 0 (suc (a / n)) pos
+    ∙ (omega (arith, div-eq_of_lt pos, div-eq_of_lt less, add-mul-div_left (a % n - 1) (suc (a / n)) pos, ap (λ (m : ℕ). m / n) parts))
+
+-- ---- at the start
+
+module _ {L B : Type 0} {inside e : EngineContent L B} (view : inside ≡ e) (each : ℕ) (is : each ≡ places inside.geometry) where
+  pub each_is : each ≡ places e.geometry
+  each_is = is ∙ ap (λ (f : EngineContent L B). places f.geometry) view
+
+  -- so many places of the open segment are taken
+  pub begun_is : inside.absorbed % each ≡ e.absorbed % places e.geometry
+  begun_is = ap (λ (n : ℕ). inside.absorbed % n) is ∙ ap (λ (f : EngineContent L B). f.absorbed % places f.geometry) view
+
+-- ---- one place after another
+
+module _ {L B : Type 0} (of_log : L → State) (of_backing : B → State) where
+  -- so many places were filled
+  pub record IsFilling (old now : EngineContent L B) (count : ℕ) : Type 0 where
+    pub kept : IsOffDevices old now
+    pub absorbed : now.absorbed ≡ old.absorbed + count
+    pub sealed : now.numbers.sealed ≡ now.numbers.first + now.absorbed / places now.geometry
+    pub first : now.numbers.first ≡ old.numbers.first
+    pub stable : now.numbers.stable ≡ old.numbers.stable
+    pub logged : now.numbers.logged ≡ old.numbers.logged
+    pub stands : (base : Image) (h : List HistoryEntry) → Standing old (of_log old.log) (of_backing old.backing) base h
+        → Standing now (of_log now.log) (of_backing now.backing) base (h ++ replicate count (Void 0))
+    pub synced : IsSynced old (of_log old.log) (of_backing old.backing) → IsSynced now (of_log now.log) (of_backing now.backing)
+
+  pub filling_none : (e : EngineContent L B) → IsEngine e (of_log e.log) (of_backing e.backing) → IsFilling e e 0
+  filling_none e is = record {
     kept = record { geometry = refl; down = refl; log = refl; backing = refl };
     absorbed = omega arith;
+    sealed = is.filled.sealed;
     first = refl;
-    recorded = refl;
+    stable = refl;
     logged = refl;
-    told = λ base h stands. subst (λ (l : List HistoryEntry). Standing (Told backing) e base l) (sym (append-nil h)) stands;
+    stands = λ base h stands. subst (λ (l : List HistoryEntry). Standing e (of_log e.log) (of_backing e.backing) base l) (sym (append-nil h)) stands;
     synced = λ is. is;
   }
 
   -- another may come
-  pub filling_comes : (old now : EngineContent L B) (log backing : State) (begun index : ℕ) → IsEngine old log backing → IsFilling old now backing (index - begun) → begun ≡ old.absorbed % places old.geometry
+  pub filling_comes : (old now : EngineContent L B) (log backing : State) (begun index : ℕ) → IsEngine old log backing → IsFilling old now (index - begun) → begun ≡ old.absorbed % places old.geometry
       → 1 ≤ begun → begun ≤ index → index < places old.geometry → MayCome now (entry.Void 0)
   filling_comes old now log backing begun index is so_far is_begun some low high =
       let n : ℕ = places old.geometry in
@@ -92,32 +126,44 @@ module _ {L B : Type 0} where
       }
 
   -- and it has come
-  pub filling_more : (state : B → State) (old mid new : EngineContent L B) (count : ℕ) → IsFilling old mid (state old.backing) count
+  pub filling_more : (old mid new : EngineContent L B) (count : ℕ) → IsFilling old mid count
       → IsOffDevices mid new → new.absorbed ≡ mid.absorbed + 1 → new.numbers ≡ numbers_at mid.geometry mid.numbers (mid.absorbed + 1)
-      → ((base : Image) (h : List HistoryEntry) → Standing (Told (state mid.backing)) mid base h → Standing (Told (state new.backing)) new base (h ++ Void 0 ∷ []))
-      → (IsSynced mid (state mid.backing) → IsSynced new (state new.backing)) → IsFilling old new (state old.backing) (count + 1)
-  filling_more state old mid new count so_far kept absorbed numbers told synced =
-      let same : mid.backing ≡ old.backing = so_far.kept.backing in
-      let same_new : new.backing ≡ old.backing = kept.backing ∙ same in
-      record {
-        kept = record {
-          geometry = kept.geometry ∙ so_far.kept.geometry;
-          down = kept.down ∙ so_far.kept.down;
-          log = kept.log ∙ so_far.kept.log;
-          backing = same_new;
-        };
-        absorbed = omega (arith, absorbed, so_far.absorbed);
-        first = ap (λ (m : Numbers). m.first) numbers ∙ so_far.first;
-        recorded = ap (λ (m : Numbers). m.recorded) numbers ∙ so_far.recorded;
-        logged = ap (λ (m : Numbers). m.logged) numbers ∙ so_far.logged;
-        told = λ base h stands.
-            let before = so_far.told base h stands in
-            let here = subst (λ (b : B). Standing (Told (state b)) mid base (h ++ replicate count (Void 0))) (sym same) before in
-            let next = told base (h ++ replicate count (Void 0)) here in
-            let there = subst (λ (b : B). Standing (Told (state b)) new base ((h ++ replicate count (Void 0)) ++ Void 0 ∷ [])) same_new next in
-            subst (λ (l : List HistoryEntry). Standing (Told (state old.backing)) new base l)
-            (append_assoc h (replicate count (Void 0)) (Void 0 ∷ []) ∙ ap (λ (l : List HistoryEntry). h ++ l) (replicate_more count)) there;
-        synced = λ is.
-            let here = subst (λ (b : B). IsSynced mid (state b)) (sym same) (so_far.synced is) in
-            subst (λ (b : B). IsSynced new (state b)) same_new (synced here);
-      }
+      → ((base : Image) (h : List HistoryEntry) → Standing mid (of_log mid.log) (of_backing mid.backing) base h → Standing new (of_log new.log) (of_backing new.backing) base (h ++ Void 0 ∷ []))
+      → (IsSynced mid (of_log mid.log) (of_backing mid.backing) → IsSynced new (of_log new.log) (of_backing new.backing)) → IsFilling old new (count + 1)
+  filling_more old mid new count so_far kept absorbed numbers stands synced = record {
+    kept = record {
+      geometry = kept.geometry ∙ so_far.kept.geometry;
+      down = kept.down ∙ so_far.kept.down;
+      log = kept.log ∙ so_far.kept.log;
+      backing = kept.backing ∙ so_far.kept.backing;
+    };
+    absorbed = omega (arith, absorbed, so_far.absorbed);
+    sealed =
+        ap (λ (m : Numbers). m.sealed) numbers
+        ∙ ap (λ (first : ℕ). first + (mid.absorbed + 1) / places mid.geometry) (sym (ap (λ (m : Numbers). m.first) numbers))
+        ∙ ap (λ (a : ℕ). new.numbers.first + a / places mid.geometry) (sym absorbed)
+        ∙ ap (λ (g : Geometry). new.numbers.first + new.absorbed / places g) (sym kept.geometry);
+    first = ap (λ (m : Numbers). m.first) numbers ∙ so_far.first;
+    stable = ap (λ (m : Numbers). m.stable) numbers ∙ so_far.stable;
+    logged = ap (λ (m : Numbers). m.logged) numbers ∙ so_far.logged;
+    stands = λ base h before.
+        subst (λ (l : List HistoryEntry). Standing new (of_log new.log) (of_backing new.backing) base l)
+        (append_assoc h (replicate count (Void 0)) (Void 0 ∷ []) ∙ ap (λ (l : List HistoryEntry). h ++ l) (replicate_more count))
+        (stands base (h ++ replicate count (Void 0)) (so_far.stands base h before));
+    synced = λ is. synced (so_far.synced is);
+  }
+
+  -- all places of the segment are
+  pub filled_rest : (old now : EngineContent L B) (count : ℕ) → IsFilling old now count → old.absorbed % places old.geometry + count ≡ places old.geometry
+      → now.absorbed % places now.geometry ≡ 0
+  filled_rest old now count so_far full =
+      ap (λ (a : ℕ). a % places now.geometry) so_far.absorbed ∙ ap (λ (g : Geometry). (old.absorbed + count) % places g) so_far.kept.geometry
+      ∙ full_rest (places old.geometry) old.absorbed count full
+
+  pub filled_last : (old now : EngineContent L B) (count : ℕ) → IsFilling old now count → 1 ≤ old.absorbed % places old.geometry
+      → old.absorbed % places old.geometry + count ≡ places old.geometry → now.numbers.sealed ≡ last_id old
+  filled_last old now count so_far some full =
+      so_far.sealed ∙ ap (λ (first : ℕ). first + now.absorbed / places now.geometry) so_far.first
+      ∙ ap (λ (a : ℕ). old.numbers.first + a / places now.geometry) so_far.absorbed
+      ∙ ap (λ (g : Geometry). old.numbers.first + (old.absorbed + count) / places g) so_far.kept.geometry
+      ∙ ap (λ (n : ℕ). old.numbers.first + n) (last_filled (places old.geometry) old.absorbed count some full)

@@ -1,11 +1,13 @@
 -- The segments in memory stand for those of a history, as one comes, is filled, or goes.
-use Rattle.std.proofs.Common.{ℕ, suc, ◌≡◌, ◌+◌, ◌<◌, List, [], ◌∷◌, ◌++◌, length, inl, inr, refl, ap, sym, ◌∙◌, subst, arith}
+use Rattle.std.proofs.Common.{ℕ, suc, ◌≡◌, ◌+◌, ◌<◌, List, [], ◌∷◌, ◌++◌, length, Option, inl, inr, refl, ap, sym, ◌∙◌, subst, arith}
 use Rattle.std.proofs.lemmas.Bool.{cases_lt}
 use Rattle.std.proofs.lemmas.List.{length_push, get_or_append_left, get_or_push}
-use Rattle.wb_geometry.specs.History.{HistoryEntry}
+use Rattle.wb_geometry.specs.History.{HistoryEntry, later, last_write}
+use Rattle.wb_geometry.specs.Line.{span}
+use Rattle.wb_geometry.proofs.Histories.{last_write-append}
 use Rattle.wb_header.specs.Segments.{Segment}
-use Rattle.wb_header.specs.Standing.{StandsFor}
-use Rattle.wb_engine.specs.Memory.{segment_at, no_segment}
+use Rattle.wb_header.specs.Standing.{StandsFor, entries_of}
+use Rattle.wb_engine.specs.Memory.{segment_at, no_segment, kept_entries}
 
 -- each segment stands for that of its id
 abbrev pub AreHeld : (ℕ → List HistoryEntry) → List Segment → Type 0
@@ -68,3 +70,22 @@ turn_push from xs x turn is j lt = elim (cases_lt j (length xs)) [
 
 pub turn_rest : (from : ℕ) (x : Segment) (xs : List Segment) → AreInTurn from (x ∷ xs) → AreInTurn (from + 1) xs
 turn_rest from x xs turn j lt = turn (suc j) (omega arith) ∙ (let z : from + 1 + suc j ≡ from + 1 + 1 + j = omega arith in z)
+
+-- ---- what they keep
+
+-- one after another they keep the last write of each sector
+pub last_write-held : (list : ℕ → List HistoryEntry) (k from : ℕ) (segments : List Segment) → AreInTurn from segments → AreHeld list segments
+    → last_write k (kept_entries segments) ≡ last_write k (span list from (length segments))
+last_write-held list k from [] turn held = refl
+last_write-held list k from (s ∷ segments) turn held =
+    let first : s.id ≡ suc from = turn 0 (omega arith) ∙ (let z : from + 1 + 0 ≡ suc from = omega arith in z) in
+    let next : from + 1 ≡ suc from = omega arith in
+    let here : last_write k (entries_of s.blocks) ≡ last_write k (list (suc from)) =
+    (held_first list s segments held).each k ∙ ap (λ (id : ℕ). last_write k (list id)) first in
+    let rest : last_write k (kept_entries segments) ≡ last_write k (span list (suc from) (length segments)) =
+    last_write-held list k (from + 1) segments (turn_rest from s segments turn) (held_rest list s segments held)
+    ∙ ap (λ (a : ℕ). last_write k (span list a (length segments))) next in
+    last_write-append k (entries_of s.blocks) (kept_entries segments)
+    ∙ ap (λ (last : Option (List ℕ)). later last (last_write k (kept_entries segments))) here
+    ∙ ap (later (last_write k (list (suc from)))) rest
+    ∙ sym (last_write-append k (list (suc from)) (span list (suc from) (length segments)))

@@ -16,6 +16,7 @@ keeps_void client m = record {
   stands = λ entries is. stands_void m.current.blocks entries client is;
   id = refl;
   sealed = refl;
+  logged = refl;
   places = refl;
   segments = refl;
   few = omega arith;

@@ -1,25 +1,32 @@
 -- A read, sector by sector.
-use Rattle.std.proofs.Common.{ℕ, suc, zero, ◌≡◌, ◌+◌, ◌-◌, ◌*◌, ◌/◌, ◌%◌, ◌<◌, ◌≤◌, ◌==◌, Bool, List, [], ◌∷◌, ◌++◌, length, take, drop, Option, refl, sym, ap, ◌∙◌, subst, arith, length-append}
+use Rattle.std.proofs.Common.{ℕ, suc, zero, ◌≡◌, ◌+◌, ◌-◌, ◌*◌, ◌/◌, ◌%◌, ◌<◌, ◌≤◌, ◌&&◌, if◌then◌else◌, Bool, true, nat_le, List, [], ◌∷◌, ◌++◌, length, take, drop, Option, Some, inl, refl, sym, ap, ◌∙◌, subst, arith, length-append}
 use Rattle.std.specs.List.{range_with_len, filter}
+use Rattle.std.specs.Option.{IsSome}
+use Rattle.std.proofs.lemmas.Bool.{and_from, le-leb}
 use Rattle.std.proofs.lemmas.List.{length-drop, length-take-le}
 use Rattle.std.proofs.lemmas.List.Elements.{filter-append}
 use Rattle.wb_geometry.specs.Image.{Image, sector, bytes_at}
-use Rattle.wb_geometry.specs.Device.{State, IsDevice, OnlyRead, CountsFaultsWhere}
-use Rattle.wb_geometry.specs.History.{HistoryEntry, after, standing, last_write}
+use Rattle.wb_geometry.specs.Device.{State, IsDevice, NothingPending, OnlyRead, CountsFaultsWhere, next_count}
+use Rattle.wb_geometry.specs.History.{HistoryEntry, after}
 use Rattle.wb_geometry.specs.declared.geometry.Geometry.{Geometry}
+use Rattle.wb_geometry.specs.declared.spot.Spot.{Spot}
 use Rattle.wb_geometry.specs.declared.which.Which.{Which}
 use Rattle.wb_geometry.proofs.Histories.{length-after, bytes_at_more}
 use Rattle.wb_geometry.proofs.Moments.{only_read}
 use Rattle.wb_super.proofs.Superblocks.{reads_only}
 use Rattle.wb_table.specs.Tables.{BlockTable, spot_in}
-use Rattle.wb_engine.specs.Memory.{MemoryContent, live, kept_entries}
-use Rattle.wb_engine.specs.Content.{EngineContent, IsEngine}
-use Rattle.wb_engine.specs.Standing.{Standing, Told, IsSameEngine}
-use Rattle.wb_engine.specs.Reading.{on_backing}
-use Rattle.wb_engine.specs.declared.numbers.Numbers.{Numbers}
-use Rattle.wb_engine.proofs.SectorReads.{sector_stands}
+use Rattle.wb_crash.specs.declared.numbers.Numbers.{Numbers}
+use Rattle.wb_crash.proofs.Shown.{shown_before}
+use Rattle.wb_crash.proofs.Halves.{safe_log_kept, safe_backing_kept}
+use Rattle.wb_engine.specs.Memory.{MemoryContent}
+use Rattle.wb_engine.specs.Content.{EngineContent}
+use Rattle.wb_engine.specs.Standing.{Standing, Told, IsSynced, IsSameEngine}
+use Rattle.wb_engine.specs.Reading.{on_backing, in_log}
 
--- ---- how many of the sectors are on the backing device
+-- ---- how many of the sectors pass a test
+
+abbrev many : (ℕ → Bool) → (at count : ℕ) → ℕ
+many test at count = length (filter test (range_with_len at count))
 
 range_more : (from count : ℕ) → range_with_len from (count + 1) ≡ range_with_len from count ++ (from + count) ∷ []
 range_more from zero = let at : from ≡ from + 0 = omega arith in ap (λ (k : ℕ). k ∷ []) at
@@ -30,24 +37,47 @@ range_more from (suc count) =
     ∙ ap (λ (ks : List ℕ). from ∷ ks) (range_more (from + 1) count)
     ∙ ap (λ (k : ℕ). from ∷ (range_with_len (from + 1) count ++ k ∷ [])) at
 
-on_backing_more : (lookup : BlockTable) (at count : ℕ) → on_backing lookup at (count + 1) ≡ on_backing lookup at count + on_backing lookup (at + count) 1
-on_backing_more lookup at count =
-    let test : ℕ → Bool = λ s. (spot_in lookup (s / 8) (s % 8)).id == 0 in
+pub many_more : (test : ℕ → Bool) (at count : ℕ) → many test at (count + 1) ≡ many test at count + many test (at + count) 1
+many_more test at count =
     ap (λ (ks : List ℕ). length (filter test ks)) (range_more at count)
     ∙ ap length (filter-append test (range_with_len at count) ((at + count) ∷ []))
     ∙ length-append (filter test (range_with_len at count)) (filter test ((at + count) ∷ []))
 
-on_backing_further : (lookup : BlockTable) (at count more : ℕ) → on_backing lookup at count ≤ on_backing lookup at (count + more)
-on_backing_further lookup at count zero = let same : count + 0 ≡ count = omega arith in omega (arith, ap (on_backing lookup at) same)
-on_backing_further lookup at count (suc more) =
+many_further : (test : ℕ → Bool) (at count more : ℕ) → many test at count ≤ many test at (count + more)
+many_further test at count zero = let same : count + 0 ≡ count = omega arith in omega (arith, ap (many test at) same)
+many_further test at count (suc more) =
     let next : count + suc more ≡ (count + more) + 1 = omega arith in
-    omega (arith, on_backing_further lookup at count more, on_backing_more lookup at (count + more), ap (on_backing lookup at) next)
+    omega (arith, many_further test at count more, many_more test at (count + more), ap (many test at) next)
 
 -- of more sectors there are no fewer
-pub on_backing_le : (lookup : BlockTable) (at count all : ℕ) → count ≤ all → on_backing lookup at count ≤ on_backing lookup at all
-on_backing_le lookup at count all few =
+pub many_le : (test : ℕ → Bool) (at count all : ℕ) → count ≤ all → many test at count ≤ many test at all
+many_le test at count all few =
     let is : count + (all - count) ≡ all = omega arith in
-    subst (λ (n : ℕ). on_backing lookup at count ≤ on_backing lookup at n) is (on_backing_further lookup at count (all - count))
+    subst (λ (n : ℕ). many test at count ≤ many test at n) is (many_further test at count (all - count))
+
+pub in_log_le : (logged : ℕ) (lookup : BlockTable) (at count all : ℕ) → count ≤ all → in_log logged lookup at count ≤ in_log logged lookup at all
+in_log_le logged lookup at count all few = many_le _ at count all few
+
+pub on_backing_le : (lookup : BlockTable) (at count all : ℕ) → count ≤ all → on_backing lookup at count ≤ on_backing lookup at all
+on_backing_le lookup at count all few = many_le _ at count all few
+
+-- one that passes
+many_one : (test : ℕ → Bool) (at : ℕ) → test at ≡ true → many test at 1 ≡ 1
+many_one test at is = ap (λ (b : Bool). length (if b then at ∷ [] else [])) is
+
+-- a read of a sector that the log has
+pub log_read_one : (logged reads now : ℕ) (lookup : BlockTable) (at : ℕ) (spot : Spot) → spot ≡ spot_in lookup (at / 8) (at % 8) → 1 ≤ spot.id → spot.id ≤ logged → now ≡ next_count reads
+    → now ≤ reads + in_log logged lookup at 1
+log_read_one logged reads now lookup at spot named some upto is =
+    let id : ℕ = (spot_in lookup (at / 8) (at % 8)).id in
+    let same : spot.id ≡ id = ap (λ (p : Spot). p.id) named in
+    let test : (nat_le 1 id && nat_le id logged) ≡ true = and_from (nat_le 1 id) (nat_le id logged) (le-leb 1 id (omega (arith, some, same))) (le-leb id logged (omega (arith, upto, same))) in
+    omega (arith, is, many_one (λ s. nat_le 1 (spot_in lookup (s / 8) (s % 8)).id && nat_le (spot_in lookup (s / 8) (s % 8)).id logged) at test)
+
+-- so many reads of the sectors up to one, and those of that one
+pub many_next : (test : ℕ → Bool) (at count before middle now : ℕ) → middle ≤ before + many test at count → now ≤ middle + many test (at + count) 1
+    → now ≤ before + many test at (count + 1)
+many_next test at count before middle now first next = omega (arith, first, next, many_more test at count)
 
 -- ---- a piece of the bytes
 
@@ -71,7 +101,13 @@ counts_later {First} before mid now same counts there back =
       kept = λ isnt. from.kept (λ is. isnt (back is));
     }
 
--- ---- the same engine
+-- ---- the same engine, over devices that were read
+
+-- what a crash leaves of a device stays the content where it was read
+pub nothing_read : {old new : State} → OnlyRead old new → NothingPending old → NothingPending new
+nothing_read {old} {new} only nothing = record {
+  only = λ x left. let was = only.crash.now x left in only.content ∙ nothing.only was.0 was.1 ∙ ap (λ (y : Image). Some y) (sym was.2);
+}
 
 module _ {L B : Type 0} where
   abbrev made : Geometry → Numbers → ℕ → Option Which → MemoryContent → L → B → EngineContent L B
@@ -85,12 +121,27 @@ module _ {L B : Type 0} where
       ∙ ap (λ (d : Option Which). made new.geometry new.numbers new.absorbed d old.memory new.log new.backing) (sym same.down)
       ∙ ap (λ (m : MemoryContent). made new.geometry new.numbers new.absorbed new.down m new.log new.backing) (sym same.memory)
 
-  -- it stands for what it stood for, where no more images are shown
-  standing_same : {Shows ShowsNow : Image → Type 0} (old new : EngineContent L B) (base : Image) (h : List HistoryEntry) → IsSameEngine old new
-      → ((y : Image) → ShowsNow y → Shows y) → Standing Shows old base h → Standing ShowsNow new base h
-  standing_same {Shows} {ShowsNow} old new base h same shown stands =
-      subst (λ (e : EngineContent L B). Standing ShowsNow e base h) (same_engine old new same)
-      (record { places = stands.places; memory = stands.memory; images = λ y is. stands.images y (shown y is) })
+  -- it stands for what it stood for
+  pub standing_read : (old new : EngineContent L B) (log new_log backing new_backing : State) (base : Image) (h : List HistoryEntry) → IsSameEngine old new → OnlyRead log new_log → OnlyRead backing new_backing
+      → Standing old log backing base h → Standing new new_log new_backing base h
+  standing_read old new log new_log backing new_backing base h same log_read backing_read stands =
+      subst (λ (e : EngineContent L B). Standing e new_log new_backing base h) (same_engine old new same) (record {
+        told = subst (λ (o : Option Image). IsSome o) (sym log_read.content) stands.told;
+        places = stands.places;
+        memory = stands.memory;
+        logged = stands.logged;
+        safe = safe_backing_kept (safe_log_kept stands.safe log_read.crash log_read.content) backing_read.crash backing_read.content;
+        record_is = λ x shows. stands.record_is x (shown_before log_read.crash log_read.content x shows);
+      })
+
+  -- and a crash leaves no more
+  pub synced_read : (old new : EngineContent L B) (log new_log backing new_backing : State) → IsSameEngine old new → OnlyRead log new_log → OnlyRead backing new_backing
+      → IsSynced old log backing → IsSynced new new_log new_backing
+  synced_read old new log new_log backing new_backing same log_read backing_read is =
+      subst (λ (e : EngineContent L B). IsSynced e new_log new_backing) (same_engine old new same) (record {
+        written_back = λ up. nothing_read backing_read (is.written_back up);
+        written = λ up all. nothing_read log_read (is.written up all);
+      })
 
   same_same : (e : EngineContent L B) → IsSameEngine e e
   same_same e = record { geometry = refl; numbers = refl; absorbed = refl; down = refl; memory = refl }
@@ -107,56 +158,74 @@ module _ {L B : Type 0} where
 -- ---- the sectors so far
 
 -- the first sectors were read, and these are their bytes
-pub record IsReadTo {L B : Type 0} (old new : EngineContent L B) (before now : State) (at count : ℕ) (bytes : List ℕ) : Type 0 where
+pub record IsReadTo {L B : Type 0} (old new : EngineContent L B) (log new_log backing new_backing : State) (at count : ℕ) (bytes : List ℕ) : Type 0 where
   pub same : IsSameEngine old new
-  pub only_read : OnlyRead before now
-  pub log : new.log ≡ old.log
-  pub faults : now.faults ≡ before.faults
-  pub reads : now.reads ≤ before.reads + on_backing old.memory.lookup at count
-  pub bytes_are : (base image : Image) (h : List HistoryEntry) → Told before image → Standing (Told before) old base h → bytes ≡ bytes_at (after base h) at count
+  pub log_read : OnlyRead log new_log
+  pub backing_read : OnlyRead backing new_backing
+  pub log_faults : new_log.faults ≡ log.faults
+  pub backing_faults : new_backing.faults ≡ backing.faults
+  pub log_reads : new_log.reads ≤ log.reads + in_log old.numbers.logged old.memory.lookup at count
+  pub backing_reads : new_backing.reads ≤ backing.reads + on_backing old.memory.lookup at count
+  pub bytes_are : (base image : Image) (h : List HistoryEntry) → Told backing image → Standing old log backing base h → bytes ≡ bytes_at (after base h) at count
 
 module _ {L B : Type 0} where
-  pub read_none : (e : EngineContent L B) (s : State) (at : ℕ) → IsReadTo e e s s at 0 []
-  read_none e s at = record {
+  pub read_none : (e : EngineContent L B) (log backing : State) (at : ℕ) → IsReadTo e e log log backing backing at 0 []
+  read_none e log backing at = record {
     same = same_same e;
-    only_read = only_read s;
-    log = refl;
-    faults = refl;
-    reads = omega arith;
+    log_read = only_read log;
+    backing_read = only_read backing;
+    log_faults = refl;
+    backing_faults = refl;
+    log_reads = omega arith;
+    backing_reads = omega arith;
     bytes_are = λ base image h told stands. refl;
   }
 
   -- how many reads the next one makes them at most
-  pub reads_next : (old mid new : EngineContent L B) (before middle now : State) (at count : ℕ) (bytes : List ℕ) → IsReadTo old mid before middle at count bytes
-      → now.reads ≤ middle.reads + on_backing mid.memory.lookup (at + count) 1 → now.reads ≤ before.reads + on_backing old.memory.lookup at (count + 1)
-  reads_next old mid new before middle now at count bytes is few =
-      omega (arith, is.reads, few, on_backing_more old.memory.lookup at count, ap (λ (m : MemoryContent). on_backing m.lookup (at + count) 1) is.same.memory)
+
+  pub log_reads_next : {old mid : EngineContent L B} {log mid_log backing mid_backing : State} (now at count : ℕ) (bytes : List ℕ) → IsReadTo old mid log mid_log backing mid_backing at count bytes
+      → now ≤ mid_log.reads + in_log mid.numbers.logged mid.memory.lookup (at + count) 1 → now ≤ log.reads + in_log old.numbers.logged old.memory.lookup at (count + 1)
+  log_reads_next {old} {mid} {log} {mid_log} now at count bytes is few =
+      let first : mid_log.reads + in_log mid.numbers.logged mid.memory.lookup (at + count) 1 ≡ mid_log.reads + in_log old.numbers.logged old.memory.lookup (at + count) 1 =
+      ap (λ (n : Numbers). mid_log.reads + in_log n.logged mid.memory.lookup (at + count) 1) is.same.numbers
+      ∙ ap (λ (m : MemoryContent). mid_log.reads + in_log old.numbers.logged m.lookup (at + count) 1) is.same.memory in
+      many_next _ at count log.reads mid_log.reads now is.log_reads (subst (λ (n : ℕ). now ≤ n) first few)
+
+  pub backing_reads_next : {old mid : EngineContent L B} {log mid_log backing mid_backing : State} (now at count : ℕ) (bytes : List ℕ) → IsReadTo old mid log mid_log backing mid_backing at count bytes
+      → now ≤ mid_backing.reads + on_backing mid.memory.lookup (at + count) 1 → now ≤ backing.reads + on_backing old.memory.lookup at (count + 1)
+  backing_reads_next {old} {mid} {backing = backing} {mid_backing = mid_backing} now at count bytes is few =
+      let first : mid_backing.reads + on_backing mid.memory.lookup (at + count) 1 ≡ mid_backing.reads + on_backing old.memory.lookup (at + count) 1 =
+      ap (λ (m : MemoryContent). mid_backing.reads + on_backing m.lookup (at + count) 1) is.same.memory in
+      many_next _ at count backing.reads mid_backing.reads now is.backing_reads (subst (λ (n : ℕ). now ≤ n) first few)
 
   -- the sector behind them
-  next_sector : (old mid : EngineContent L B) (before middle log : State) (at count : ℕ) (bytes piece : List ℕ) (base image : Image) (h : List HistoryEntry)
-      → IsReadTo old mid before middle at count bytes → IsEngine mid log middle → IsDevice middle → at + count < mid.geometry.backing_sectors
-      → ((x : Image) → Told middle x → piece ≡ standing (sector x (at + count)) (last_write (at + count) (kept_entries (live mid.memory))))
-      → Told before image → Standing (Told before) old base h → bytes ++ piece ≡ bytes_at (after base h) at (count + 1)
-  next_sector old mid before middle log at count bytes piece base image h is engine device inside read told stands =
-      let now_told : Told middle image = is.only_read.content ∙ told in
-      let now_stands : Standing (Told middle) mid base h = standing_same old mid base h is.same (λ y shown. sym is.only_read.content ∙ shown) stands in
-      let size : length image ≡ middle.sectors = (device.content image now_told).size in
-      let same_size : length image ≡ length base = (stands.images image told).size in
+  pub next_sector : {old mid : EngineContent L B} {log mid_log backing mid_backing : State} (at count : ℕ) (bytes piece : List ℕ) → IsReadTo old mid log mid_log backing mid_backing at count bytes
+      → IsDevice mid_backing → at + count < mid_backing.sectors
+      → ((base image : Image) (h : List HistoryEntry) → Told mid_backing image → Standing mid mid_log mid_backing base h → piece ≡ sector (after base h) (at + count))
+      → (base image : Image) (h : List HistoryEntry) → Told backing image → Standing old log backing base h → bytes ++ piece ≡ bytes_at (after base h) at (count + 1)
+  next_sector {old} {mid} {log} {mid_log} {backing} {mid_backing} at count bytes piece is device inside read base image h told stands =
+      let now_told : Told mid_backing image = is.backing_read.content ∙ told in
+      let now_stands : Standing mid mid_log mid_backing base h = standing_read old mid log mid_log backing mid_backing base h is.same is.log_read is.backing_read stands in
+      let size : length image ≡ mid_backing.sectors = (device.content image now_told).size in
+      let same_size : length image ≡ length base = (stands.safe.on_backing.shown image (inl told)).size in
       ap (λ (b : List ℕ). b ++ piece) (is.bytes_are base image h told stands)
-      ∙ ap (λ (b : List ℕ). bytes_at (after base h) at count ++ b)
-      (read image now_told ∙ sector_stands mid log middle base image h (at + count) engine now_stands now_told (omega (arith, inside, engine.backing_room, size)))
-      ∙ sym (bytes_at_more (after base h) at count (omega (arith, inside, engine.backing_room, size, same_size, length-after base h)))
+      ∙ ap (λ (b : List ℕ). bytes_at (after base h) at count ++ b) (read base image h now_told now_stands)
+      ∙ sym (bytes_at_more (after base h) at count (omega (arith, inside, size, same_size, length-after base h)))
 
-  pub read_more : (old mid new : EngineContent L B) (before middle now log : State) (at count : ℕ) (bytes piece whole : List ℕ)
-      → IsReadTo old mid before middle at count bytes → IsEngine mid log middle → IsDevice middle → at + count < mid.geometry.backing_sectors
-      → ((x : Image) → Told middle x → piece ≡ standing (sector x (at + count)) (last_write (at + count) (kept_entries (live mid.memory))))
-      → IsSameEngine mid new → OnlyRead middle now → new.log ≡ mid.log → now.faults ≡ middle.faults → now.reads ≤ middle.reads + on_backing mid.memory.lookup (at + count) 1
-      → whole ≡ bytes ++ piece → IsReadTo old new before now at (count + 1) whole
-  read_more old mid new before middle now log at count bytes piece whole is engine device inside read same only logs faults reads joined = record {
+  pub read_more : {old mid new : EngineContent L B} {log mid_log new_log backing mid_backing new_backing : State} (at count : ℕ) (bytes piece whole : List ℕ)
+      → IsReadTo old mid log mid_log backing mid_backing at count bytes → IsDevice mid_backing → at + count < mid_backing.sectors
+      → ((base image : Image) (h : List HistoryEntry) → Told mid_backing image → Standing mid mid_log mid_backing base h → piece ≡ sector (after base h) (at + count))
+      → IsSameEngine mid new → OnlyRead mid_log new_log → OnlyRead mid_backing new_backing → new_log.faults ≡ mid_log.faults → new_backing.faults ≡ mid_backing.faults
+      → new_log.reads ≤ mid_log.reads + in_log mid.numbers.logged mid.memory.lookup (at + count) 1
+      → new_backing.reads ≤ mid_backing.reads + on_backing mid.memory.lookup (at + count) 1
+      → whole ≡ bytes ++ piece → IsReadTo old new log new_log backing new_backing at (count + 1) whole
+  read_more {old} {mid} {new} at count bytes piece whole is device inside read same log_only backing_only log_faults backing_faults log_reads backing_reads joined = record {
     same = same_trans old mid new is.same same;
-    only_read = reads_only is.only_read only;
-    log = logs ∙ is.log;
-    faults = faults ∙ is.faults;
-    reads = reads_next old mid new before middle now at count bytes is reads;
-    bytes_are = λ base image h told stands. joined ∙ next_sector old mid before middle log at count bytes piece base image h is engine device inside read told stands;
+    log_read = reads_only is.log_read log_only;
+    backing_read = reads_only is.backing_read backing_only;
+    log_faults = log_faults ∙ is.log_faults;
+    backing_faults = backing_faults ∙ is.backing_faults;
+    log_reads = log_reads_next _ at count bytes is log_reads;
+    backing_reads = backing_reads_next _ at count bytes is backing_reads;
+    bytes_are = λ base image h told stands. joined ∙ next_sector at count bytes piece is device inside read base image h told stands;
   }

@@ -98,12 +98,6 @@ spot_from-id id blocks number i = elim (spot_from-cases id 0 blocks number i) [
   | inr none ↦ inr none.0
 ]
 
-pub spot_from-nowhere : (id : ℕ) (blocks : List TextBlock) (number i : ℕ) → 1 ≤ id → (spot_from id 0 blocks number i).id ≡ 0 → spot_from id 0 blocks number i ≡ nowhere
-spot_from-nowhere id blocks number i some none_id = elim (spot_from-id id blocks number i) [
-  | inl is ↦ absurd (omega (arith, some, is, none_id))
-  | inr none ↦ none
-]
-
 -- ---- a merge
 
 pub merged_length : (number bits index : ℕ) (old new : List TextBlock) → IsMerged number bits index old new → (length new ≡ length old) ⊎ ((length new ≡ length old + 1) × (index ≡ length old))

@@ -1,12 +1,14 @@
 -- The engine, as contracts see it.
-use Rattle.std.specs.Prelude.{ℕ, ◌≡◌, ◌+◌, ◌-◌, ◌*◌, ◌/◌, ◌%◌, ◌≤◌, ◌^◌, ◌<◌, length, Option, None, All}
+use Rattle.std.specs.Prelude.{ℕ, ◌≡◌, ◌+◌, ◌-◌, ◌*◌, ◌/◌, ◌%◌, ◌≤◌, ◌^◌, ◌<◌, length, Option, None, All, List}
 use Rattle.wb_geometry.specs.Device.{State}
 use Rattle.wb_geometry.specs.Layout.{places, log_sectors}
 use Rattle.wb_geometry.specs.declared.geometry.Geometry.{Geometry}
 use Rattle.wb_geometry.specs.declared.which.Which.{Which}
 use Rattle.wb_header.specs.Segments.{Segment}
+use Rattle.wb_header.specs.declared.sealed.Meta.{Meta}
+use Rattle.wb_crash.specs.Images.{IsOrdered}
+use Rattle.wb_crash.specs.declared.numbers.Numbers.{Numbers}
 use Rattle.wb_engine.specs.Memory.{MemoryContent, live, segment_at}
-use Rattle.wb_engine.specs.declared.numbers.Numbers.{Numbers}
 
 -- its numbers, both devices, and what it keeps in memory
 pub record EngineContent (L B : Type 0) : Type 0 where
@@ -22,18 +24,6 @@ pub record EngineContent (L B : Type 0) : Type 0 where
 abbrev pub limit_of : Geometry → Numbers → ℕ
 limit_of g e = places g * (e.logged - e.first + g.ram)
 
--- the numbers stand in this order
-pub record IsOrdered (g : Geometry) (e : Numbers) : Type 0 where
-  pub start : e.first ≤ e.recorded
-  pub recorded : e.recorded ≤ e.back
-  pub back : e.back ≤ e.stable
-  pub stable : e.stable ≤ e.logged
-  pub logged : e.logged ≤ e.tried
-  pub tried : e.tried ≤ e.sealed
-  pub one : e.tried ≤ e.logged + 1
-  pub room : e.tried ≤ e.recorded + g.slots
-  pub ids : e.sealed ≤ 2 ^ 48
-
 -- Of the places that were absorbed the sealed segments have theirs, and the open one the rest, fewer than a segment has;
 -- where it has any, it has a block.
 pub record IsFilled {L B : Type 0} (e : EngineContent L B) : Type 0 where
@@ -47,22 +37,27 @@ pub record IsFilled {L B : Type 0} (e : EngineContent L B) : Type 0 where
 abbrev pub IsInsideBacking : Geometry → Segment → Type 0
 IsInsideBacking g s = All (λ block. 8 * block.number + 8 ≤ g.backing_sectors) s.blocks
 
--- the sealed segments in memory are those that aren't logged
-pub record HoldsUnlogged {L B : Type 0} (e : EngineContent L B) : Type 0 where
+abbrev pub AreMetasInside : (sectors : ℕ) → List Meta → Type 0
+AreMetasInside sectors metas = All (λ (meta : Meta). 8 * meta.block + 8 ≤ sectors) metas
+
+-- the segments in memory are those that aren't logged, and of those in the log it is kept what isn't recorded
+pub record HoldsLive {L B : Type 0} (e : EngineContent L B) : Type 0 where
   pub places : e.memory.places ≡ places e.geometry
   pub segments : e.memory.segments ≡ e.geometry.ram
+  pub slots : e.memory.logged.slots ≡ e.geometry.slots
   pub count : length e.memory.sealed ≡ e.numbers.sealed - e.numbers.logged
   pub ids : (j : ℕ) → j < length (live e.memory) → (segment_at (live e.memory) j).id ≡ e.numbers.logged + 1 + j
   pub inside : All (IsInsideBacking e.geometry) (live e.memory)
+  pub logged_count : length e.memory.logged.kept ≡ e.numbers.logged - e.numbers.recorded
+  pub logged_first : 1 ≤ length e.memory.logged.kept → e.memory.logged.first ≡ e.numbers.recorded + 1
+  pub logged_inside : All (AreMetasInside e.geometry.backing_sectors) e.memory.logged.kept
 
 -- what always holds of an engine
 pub record IsEngine {L B : Type 0} (e : EngineContent L B) (log backing : State) : Type 0 where
   pub ordered : IsOrdered e.geometry e.numbers
   -- while it is up no write to the log is under way
   pub up : e.down ≡ None → e.numbers.tried ≡ e.numbers.logged
-  -- as long as no segment is written to the log, all that counts as logged is written back
-  pub level : e.numbers.recorded ≡ e.numbers.logged
   pub log_room : log_sectors e.geometry ≤ log.sectors
   pub backing_room : e.geometry.backing_sectors ≤ backing.sectors
   pub filled : IsFilled e
-  pub memory : HoldsUnlogged e
+  pub memory : HoldsLive e

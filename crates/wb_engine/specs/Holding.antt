@@ -12,6 +12,7 @@ abbrev pub content_of : Inside → MemoryContent
 content_of m = record {
   places = m.places;
   segments = segments_of m;
+  logged = m.logged;
   sealed = m.sealed.items;
   current = m.current;
   lookup = m.lookup;

@@ -6,4 +6,4 @@ pub mod Opening
 pub mod Reading
 pub mod Spots
 pub mod Standing
-pub mod Turning
+pub mod Stepping

@@ -1,48 +1,58 @@
 -- What an engine stands for: an image at the start, and a history.
-use Rattle.std.specs.Prelude.{ℕ, ◌≡◌, ◌≢◌, ◌⊎◌, ◌+◌, ◌*◌, ◌/◌, ◌%◌, ◌<◌, ◌≤◌, ◌^◌, List, [], ◌∷◌, ◌++◌, length, All, None, Some}
+use Rattle.std.specs.Prelude.{ℕ, ◌≡◌, ◌≢◌, ◌⊎◌, ◌+◌, ◌*◌, ◌/◌, ◌%◌, ◌<◌, ◌≤◌, ◌^◌, List, [], ◌∷◌, ◌++◌, length, All, None, Some, IsSome}
 use Rattle.wb_geometry.specs.Image.{Image}
 use Rattle.wb_geometry.specs.Device.{State, NothingPending}
 use Rattle.wb_geometry.specs.History.{HistoryEntry, IsBlockInside}
 use Rattle.wb_geometry.specs.Entering.{entered}
 use Rattle.wb_geometry.specs.Layout.{places}
-use Rattle.wb_geometry.specs.Line.{Line, line_of, Agrees}
+use Rattle.wb_geometry.specs.Line.{Line, line_of}
 use Rattle.wb_geometry.specs.declared.geometry.Geometry.{Geometry}
 use Rattle.wb_geometry.specs.declared.entry.Entry.{Entry}
 use Rattle.wb_geometry.specs.declared.entry.Entry.TheVariants as entry
+use Rattle.wb_geometry.specs.declared.which.Which.TheVariants.{Log}
 use Rattle.wb_header.specs.Standing.{StandsFor}
+use Rattle.wb_header.specs.Text.{TextBlock}
 use Rattle.wb_header.specs.Segments.{Segment}
+use Rattle.wb_header.specs.declared.sealed.Meta.{Meta}
+use Rattle.wb_super.specs.Superblock.{record_of}
+use Rattle.wb_log.specs.Kept.{metas_of, metas_at}
+use Rattle.wb_crash.specs.Safety.{Shows, IsSafe}
+use Rattle.wb_crash.specs.declared.numbers.Numbers.{Numbers}
 use Rattle.wb_engine.specs.Memory.{MemoryContent, live, segment_at}
 use Rattle.wb_engine.specs.Content.{EngineContent, limit_of}
-use Rattle.wb_engine.specs.declared.numbers.Numbers.{Numbers}
 
 -- the history, cut into the engine's segments
 abbrev pub line : {L B : Type 0} → EngineContent L B → Image → List HistoryEntry → Line
 line e base history = line_of (places e.geometry) e.numbers.first base history
 
--- An image of the backing device: for each segment from the recorded one to the last that is back it agrees with the image
--- after that segment in each sector that no segment behind it, up to the last that was begun, writes.
-pub record IsBackingImage (line : Line) (e : Numbers) (y : Image) : Type 0 where
-  pub size : length y ≡ length line.base
-  pub agrees : (r : ℕ) → e.recorded ≤ r → r ≤ e.back → Agrees line r e.tried y
+-- of these entries the numbers and the dirty bits of the blocks are kept that stand for them
+pub record IsListed (metas : List Meta) (entries : List HistoryEntry) : Type 0 where
+  pub blocks : List TextBlock
+  pub for : StandsFor blocks entries
+  pub kept : metas ≡ metas_of blocks
 
--- The history has the places that were absorbed; the blocks of each segment in memory stand for its entries; and each image
--- that the backing device shows is one of its images.
-pub record Standing {L B : Type 0} (Shows : Image → Type 0) (e : EngineContent L B) (base : Image) (history : List HistoryEntry) : Type 0 where
+-- The log tells its content; the history has the places that were absorbed; the blocks of each segment in memory stand for
+-- its entries, and what is kept of each in the log is of such blocks; and the devices hold what they should, and would after
+-- a crash now.
+pub record Standing {L B : Type 0} (e : EngineContent L B) (log backing : State) (base : Image) (history : List HistoryEntry) : Type 0 where
+  pub told : IsSome log.content
   pub places : length history ≡ e.absorbed
   pub memory : (j : ℕ) → j < length (live e.memory)
       → StandsFor (segment_at (live e.memory) j).blocks ((line e base history).list (segment_at (live e.memory) j).id)
-  pub images : (y : Image) → Shows y → IsBackingImage (line e base history) e.numbers y
+  pub logged : (s : ℕ) → e.numbers.recorded < s → s ≤ e.numbers.logged → IsListed (metas_at e.memory.logged s) ((line e base history).list s)
+  pub safe : IsSafe e.geometry (line e base history) e.numbers log backing
+  -- the record is the one that was written last, or else the engine is down by the log and it is the one whose write failed
+  pub record_is : (x : Image) → Shows log x → (record_of x ≡ e.numbers.recorded) ⊎ ((e.down ≡ Some Log) × (record_of x ≡ e.numbers.back))
 
--- a device shows its content, where it tells it; and what a crash now may leave
+-- a device's content, where it tells it
 abbrev pub Told : State → Image → Type 0
 Told s y = s.content ≡ Some y
 
-abbrev pub Left : State → Image → Type 0
-Left s y = s.leaves_now y
-
--- once a segment was written back, a crash leaves what a read gives, while the engine is up
-pub record IsSynced {L B : Type 0} (e : EngineContent L B) (backing : State) : Type 0 where
-  pub synced : e.down ≡ None → e.numbers.first < e.numbers.recorded → NothingPending backing
+-- While the engine is up a crash leaves of the backing device what a read gives, and of the log too unless a segment was
+-- written since the last sync.
+pub record IsSynced {L B : Type 0} (e : EngineContent L B) (log backing : State) : Type 0 where
+  pub written_back : e.down ≡ None → NothingPending backing
+  pub written : e.down ≡ None → e.numbers.stable ≡ e.numbers.logged → NothingPending log
 
 -- a write has a dirty sector, and its block is inside; another entry isn't the first of a segment
 abbrev pub Fits : {L B : Type 0} → EngineContent L B → Entry → Type 0
@@ -89,6 +99,7 @@ pub record Keeps (come : Entry) (memory new_memory : MemoryContent) : Type 0 whe
   pub stands : (entries : List HistoryEntry) → StandsFor memory.current.blocks entries → StandsFor new_memory.current.blocks (entries ++ entered come ∷ [])
   pub id : new_memory.current.id ≡ memory.current.id
   pub sealed : new_memory.sealed ≡ memory.sealed
+  pub logged : new_memory.logged ≡ memory.logged
   pub places : new_memory.places ≡ memory.places
   pub segments : new_memory.segments ≡ memory.segments
   pub few : length new_memory.current.blocks ≤ length memory.current.blocks + blocks_of come
@@ -105,6 +116,7 @@ pub record IsNextOpened (numbers new_numbers : Numbers) (memory new_memory : Mem
   pub blocks : segment.blocks ≡ memory.current.blocks
   pub next_id : new_memory.current.id ≡ memory.current.id + 1
   pub next_blocks : new_memory.current.blocks ≡ []
+  pub logged : new_memory.logged ≡ memory.logged
   pub places : new_memory.places ≡ memory.places
   pub segments : new_memory.segments ≡ memory.segments
 

@@ -7,20 +7,20 @@ ghost use Rattle.wb_geometry.specs.Layout.{places};
 ghost use Rattle.wb_table.specs.Lookup.{nowhere};
 ghost use Rattle.wb_table.specs.Tables.{spot_in};
 ghost use Rattle.wb_engine.specs.Content.{IsEngine, limit_of};
-ghost use Rattle.wb_engine.specs.Standing.{Standing, Told, line};
+ghost use Rattle.wb_engine.specs.Standing.{Standing, line};
 ghost use Rattle.wb_engine.specs.Spots.{IsNewestSpot};
 
 use crate::memory::Memory;
-use crate::numbers::Numbers;
 use std::marker::Model;
 use wb_back::Plan;
+use wb_crash::Numbers;
 use wb_device::Device;
 use wb_geometry::{Geometry, Spot, Which};
 
 /// A cache before a backing device, on one thread. It takes no memory after it was opened.
 ///
-/// Once a device has failed in a write or a sync the engine is down: it calls that device for reads alone, still absorbs
-/// while there is room, and still reads.
+/// Once a device has failed in a write, in a sync, or in the reading of a segment that is to be written back, the engine is
+/// down: it writes and syncs neither device any more, still absorbs while there is room, and still reads.
 #[derive(Drop)]
 pub struct Engine<L: Device, B: Device> {
     pub(crate) geometry: Geometry,
@@ -31,18 +31,20 @@ pub struct Engine<L: Device, B: Device> {
     pub(crate) backing: B,
     pub(crate) memory: Memory,
     pub(crate) plan: Plan,
+    // As many bytes as a slot has, for the text of the segment that is written to the log.
+    pub(crate) scratch: Vec<u8>,
 }
 
 impl<L: Device, B: Device> Model for Engine<L, B> {
-    ghost use Rattle.std.specs.Prelude.{◌≤◌};
-    ghost use Rattle.wb_geometry.specs.Layout.{places};
+    ghost use Rattle.std.specs.Prelude.{◌≡◌, ◌≤◌, ◌*◌, length};
+    ghost use Rattle.wb_geometry.specs.Layout.{places, slot_sectors};
     ghost use Rattle.wb_engine.specs.Content.{EngineContent, IsEngine};
 
     ghost Value = { EngineContent L B };
 
     ghost view = { λ e. record { geometry = e.geometry; numbers = e.numbers; absorbed = e.absorbed; down = e.down; log = e.log; backing = e.backing; memory = e.memory } };
 
-    ghost invariant = { λ e. IsEngine (record { geometry = e.geometry; numbers = e.numbers; absorbed = e.absorbed; down = e.down; log = e.log; backing = e.backing; memory = e.memory }) (L.state e.log) (B.state e.backing) × (places e.geometry ≤ e.plan.room) };
+    ghost invariant = { λ e. IsEngine (record { geometry = e.geometry; numbers = e.numbers; absorbed = e.absorbed; down = e.down; log = e.log; backing = e.backing; memory = e.memory }) (L.state e.log) (B.state e.backing) × (places e.geometry ≤ e.plan.room) × (length e.scratch.items ≡ 512 * slot_sectors e.geometry) };
 }
 
 impl<L: Device, B: Device> Engine<L, B> {
@@ -83,32 +85,32 @@ impl<L: Device, B: Device> Engine<L, B> {
         self.geometry.places() * (self.numbers.stable - self.numbers.first)
     }
 
-    /// The id of the last segment that needn't be read again.
+    /// The id in the log's record: recovery begins behind that segment.
     pub fn recorded(&self) -> u64
         ensures { result ≡ self.now.numbers.recorded }
     {
         self.numbers.recorded
     }
 
-    /// The device that failed in a write or a sync, if one did.
+    /// The device by which the engine is down, if it is.
     pub fn down(&self) -> Option<Which>
         ensures { result ≡ self.now.down }
     {
         self.down
     }
 
-    /// For each sector of a block inside the backing device: the newest segment that isn't written back and has it, and
-    /// the block's index in that segment; or id 0 and index 0 where there is none.
+    /// For each sector of a block inside the backing device: the newest segment behind the record that has it, and the
+    /// block's index in that segment; or id 0 and index 0 where there is none.
     pub fn spots(&self, block: u64) -> [Spot; 8]
         requires { 8 * block + 8 ≤ self.now.geometry.backing_sectors }
-        ensures newest { (base : Image) (history : List HistoryEntry) → Standing (Told (B.state self.now.backing)) self.now base history → (i : ℕ) → i < 8
+        ensures newest { (base : Image) (history : List HistoryEntry) → Standing self.now (L.state self.now.log) (B.state self.now.backing) base history → (i : ℕ) → i < 8
             → IsNewestSpot (line self.now base history) self.now.numbers.recorded (self.now.numbers.sealed + 1) block i (slice_index_or result i nowhere) }
         ensures table { (i : ℕ) → i < 8 → slice_index_or result i nowhere ≡ spot_in self.now.memory.lookup block i }
     {
         self.memory.spots(block)
     }
 
-    /// Gives the engine up, and the devices back. Neither is called, so what was absorbed and not written back is lost.
+    /// Gives the engine up, and the devices back. Neither is called, so what was absorbed and isn't in the log is lost.
     pub fn into_devices(self) -> (L, B)
         ensures log { result.0 ≡ self.log }
         ensures backing { result.1 ≡ self.backing }

@@ -1,18 +1,18 @@
 //! Reading what the history made of the image.
-ghost use Rattle.std.specs.Prelude.{◌≡◌, ◌+◌, ◌/◌, ◌%◌, ◌≤◌, ◌<◌, List, length, Err, OnOk, IfErr};
+ghost use Rattle.std.specs.Prelude.{◌≡◌, ◌+◌, ◌/◌, ◌%◌, ◌≤◌, ◌<◌, List, length, Err, OnOk};
 ghost use Rattle.wb_geometry.specs.Image.{Image, bytes_at};
 ghost use Rattle.wb_geometry.specs.Image.{sector as image_sector};
-ghost use Rattle.wb_geometry.specs.History.{HistoryEntry, after, standing, last_write};
-ghost use Rattle.wb_engine.specs.Memory.{live, kept_entries};
+ghost use Rattle.wb_geometry.specs.History.{HistoryEntry, after};
 ghost use Rattle.wb_geometry.specs.Device.{OnlyRead, CountsFaultsWhere};
-ghost use Rattle.wb_geometry.specs.declared.which.Which.TheVariants.{Backing};
-ghost use Rattle.wb_engine.specs.Content.{IsEngine};
-ghost use Rattle.wb_engine.specs.Standing.{Standing, Told, IsSameEngine};
-ghost use Rattle.wb_engine.specs.Reading.{on_backing};
+ghost use Rattle.wb_geometry.specs.declared.which.Which.TheVariants.{Log, Backing};
+ghost use Rattle.wb_engine.specs.Standing.{Standing, Told, IsSynced, IsSameEngine};
+ghost use Rattle.wb_engine.specs.Reading.{on_backing, in_log};
 
 use crate::engine::Engine;
+use crate::memory::Newest;
 use wb_device::{Device, DeviceFault};
 use wb_geometry::Which;
+use wb_log::read_sector;
 
 const SECTOR_BYTES: usize = 512;
 
@@ -25,14 +25,19 @@ impl<L: Device, B: Device> Engine<L, B> {
         requires some { 512 ≤ length into.old }
         requires inside { sector + length into.old / 512 ≤ self.old.geometry.backing_sectors }
         ensures ok { OnOk result ((base image : Image) (history : List HistoryEntry) → Told (B.state self.old.backing) image
-            → Standing (Told (B.state self.old.backing)) self.old base history
+            → Standing self.old (L.state self.old.log) (B.state self.old.backing) base history
             → into.new ≡ bytes_at (after base history) sector (length into.old / 512)) }
+        ensures stands { (base : Image) (history : List HistoryEntry) → Standing self.old (L.state self.old.log) (B.state self.old.backing) base history
+            → Standing self.new (L.state self.new.log) (B.state self.new.backing) base history }
+        ensures synced { IsSynced self.old (L.state self.old.log) (B.state self.old.backing) → IsSynced self.new (L.state self.new.log) (B.state self.new.backing) }
         ensures same { IsSameEngine self.old self.new }
-        ensures only_read { OnlyRead (B.state self.old.backing) (B.state self.new.backing) }
-        ensures log { self.new.log ≡ self.old.log }
-        ensures cause { CountsFaultsWhere (result ≡ Err Backing) (B.state self.old.backing).faults (B.state self.new.backing).faults }
-        ensures not_log { IfErr result (λ which. which ≡ Backing) }
-        ensures reads { (B.state self.new.backing).reads
+        ensures log { OnlyRead (L.state self.old.log) (L.state self.new.log) }
+        ensures backing { OnlyRead (B.state self.old.backing) (B.state self.new.backing) }
+        ensures log_cause { CountsFaultsWhere (result ≡ Err Log) (L.state self.old.log).faults (L.state self.new.log).faults }
+        ensures backing_cause { CountsFaultsWhere (result ≡ Err Backing) (B.state self.old.backing).faults (B.state self.new.backing).faults }
+        ensures log_reads { (L.state self.new.log).reads
+            ≤ (L.state self.old.log).reads + in_log self.old.numbers.logged self.old.memory.lookup sector (length into.old / 512) }
+        ensures backing_reads { (B.state self.new.backing).reads
             ≤ (B.state self.old.backing).reads + on_backing self.old.memory.lookup sector (length into.old / 512) }
     {
         let count = into.len() / SECTOR_BYTES;
@@ -50,22 +55,32 @@ impl<L: Device, B: Device> Engine<L, B> {
     fn read_sector(&mut self, sector: u64, into: &mut [u8]) -> Result<(), Which>
         requires size { length into.old ≡ 512 }
         requires inside { sector < self.old.geometry.backing_sectors }
-        ensures sound { IsEngine self.old (L.state self.old.log) (B.state self.old.backing) }
-        ensures ok { OnOk result ((image : Image) → Told (B.state self.old.backing) image
-            → into.new ≡ standing (image_sector image sector) (last_write sector (kept_entries (live self.old.memory)))) }
+        ensures ok { OnOk result ((base image : Image) (history : List HistoryEntry) → Told (B.state self.old.backing) image
+            → Standing self.old (L.state self.old.log) (B.state self.old.backing) base history
+            → into.new ≡ image_sector (after base history) sector) }
+        ensures size { length into.new ≡ 512 }
+        ensures room { self.old.geometry.backing_sectors ≤ (B.state self.old.backing).sectors }
         ensures same { IsSameEngine self.old self.new }
-        ensures only_read { OnlyRead (B.state self.old.backing) (B.state self.new.backing) }
-        ensures log { self.new.log ≡ self.old.log }
-        ensures cause { CountsFaultsWhere (result ≡ Err Backing) (B.state self.old.backing).faults (B.state self.new.backing).faults }
-        ensures not_log { IfErr result (λ which. which ≡ Backing) }
-        ensures reads { (B.state self.new.backing).reads ≤ (B.state self.old.backing).reads + on_backing self.old.memory.lookup sector 1 }
+        ensures log { OnlyRead (L.state self.old.log) (L.state self.new.log) }
+        ensures backing { OnlyRead (B.state self.old.backing) (B.state self.new.backing) }
+        ensures log_cause { CountsFaultsWhere (result ≡ Err Log) (L.state self.old.log).faults (L.state self.new.log).faults }
+        ensures backing_cause { CountsFaultsWhere (result ≡ Err Backing) (B.state self.old.backing).faults (B.state self.new.backing).faults }
+        ensures log_reads { (L.state self.new.log).reads ≤ (L.state self.old.log).reads + in_log self.old.numbers.logged self.old.memory.lookup sector 1 }
+        ensures backing_reads { (B.state self.new.backing).reads ≤ (B.state self.old.backing).reads + on_backing self.old.memory.lookup sector 1 }
     {
-        match self.memory.sector(sector / 8, (sector % 8) as u8) {
-            Some(bytes) => {
+        let (block, index) = (sector / 8, (sector % 8) as u8);
+        match self.memory.newest(block, index) {
+            Newest::Here(bytes) => {
                 into.copy_from_slice(bytes);
                 Ok(())
             }
-            None => match self.backing.read(sector, into) {
+            Newest::Logged(spot) => {
+                match read_sector(&mut self.log, &self.geometry, spot, index, into) {
+                    Ok(()) => Ok(()),
+                    Err(DeviceFault) => Err(Which::Log),
+                }
+            }
+            Newest::Backing => match self.backing.read(sector, into) {
                 Ok(()) => Ok(()),
                 Err(DeviceFault) => Err(Which::Backing),
             },

@@ -12,6 +12,7 @@ returns-in-Write c =
       stands = λ entries is. put.stands c.in-Write.client entries is;
       id = put.id;
       sealed = put.sealed;
+      logged = put.logged;
       places = put.sizes.0;
       segments = put.sizes.1;
       few = put.few;

@@ -1,7 +1,7 @@
 use Rattle.std.proofs.Common.{◌+◌, ℕ, subst, sym}
 use Rattle.std.proofs.Math.Facts.{Fits-of_lt}
 use Rattle.wb_engine.specs.Standing.{MayCome, IsSealedIfFull}
-use Rattle.wb_engine.proofs.Absorbed.{engine_absorbed, numbers_absorbed, standing_absorbed, absorbed_fits, current_fits}
+use Rattle.wb_engine.proofs.Absorbed.{engine_absorbed, numbers_absorbed, standing_absorbed, synced_absorbed, absorbed_fits, current_fits}
 use Rattle.wb_engine.proofs.engine.Engine.absorb.Goals as goal
 
 pub overflow_add-self : goal.overflow_add-self
@@ -16,19 +16,20 @@ pub invariant_of-self : goal.invariant_of-self
 invariant_of-self g c =
     let may = subst (λ e. MayCome e c.args.entry) (sym c.self.view_is) c.requires in
     let sealed = subst (λ (n : ℕ). IsSealedIfFull (c.self.inside.absorbed + 1) n c.self.inside.numbers c.seal_if_full.new.numbers c.keep.new.memory c.seal_if_full.new.memory) c.places.ensures.places c.seal_if_full.ensures in
-    (engine_absorbed _ _ _ c.args.entry c.keep.new.memory c.seal_if_full.new.memory c.seal_if_full.new.numbers c.self.invariant.0 may c.keep.ensures sealed, c.self.invariant.1)
+    (engine_absorbed _ _ _ c.args.entry c.keep.new.memory c.seal_if_full.new.memory c.seal_if_full.new.numbers c.self.invariant.0 may c.keep.ensures sealed, c.self.invariant.1, c.self.invariant.2)
 
-pub returns-clause-told : goal.returns-clause-told
-returns-clause-told g c =
+pub returns-clause-stands : goal.returns-clause-stands
+returns-clause-stands g c =
+    let may = subst (λ e. MayCome e c.args.entry) (sym c.self.view_is) c.requires in
     let sealed = subst (λ (n : ℕ). IsSealedIfFull (c.self.inside.absorbed + 1) n c.self.inside.numbers c.seal_if_full.new.numbers c.keep.new.memory c.seal_if_full.new.memory) c.places.ensures.places c.seal_if_full.ensures in
     rw (← c.self.view_is) (λ base h stands.
-    standing_absorbed _ _ _ c.args.entry c.keep.new.memory c.seal_if_full.new.memory c.seal_if_full.new.numbers base h c.self.invariant.0 c.keep.ensures sealed stands)
+    standing_absorbed _ _ _ c.args.entry c.keep.new.memory c.seal_if_full.new.memory c.seal_if_full.new.numbers base h c.self.invariant.0 may c.keep.ensures sealed stands)
 
-pub returns-clause-left : goal.returns-clause-left
-returns-clause-left g c =
+pub returns-clause-synced : goal.returns-clause-synced
+returns-clause-synced g c =
     let sealed = subst (λ (n : ℕ). IsSealedIfFull (c.self.inside.absorbed + 1) n c.self.inside.numbers c.seal_if_full.new.numbers c.keep.new.memory c.seal_if_full.new.memory) c.places.ensures.places c.seal_if_full.ensures in
-    rw (← c.self.view_is) (λ base h stands.
-    standing_absorbed _ _ _ c.args.entry c.keep.new.memory c.seal_if_full.new.memory c.seal_if_full.new.numbers base h c.self.invariant.0 c.keep.ensures sealed stands)
+    rw (← c.self.view_is) (λ was.
+    synced_absorbed _ _ _ c.keep.new.memory c.seal_if_full.new.memory c.seal_if_full.new.numbers sealed was)
 
 pub returns-clause-numbers : goal.returns-clause-numbers
 returns-clause-numbers g c =

@@ -5,4 +5,5 @@ use Rattle.wb_engine.proofs.engine.Engine.read.Given as goal
 
 abbrev pub invariant-loop-index : goal.invariant-loop-index
 invariant-loop-index g l =
-    IsReadTo l.fn.self l.self (g.B.Device.state l.fn.self.backing) (g.B.Device.state l.self.backing) l.fn.sector l.index (take (512 * l.index) l.into)
+    IsReadTo l.fn.self l.self (g.L.Device.state l.fn.self.log) (g.L.Device.state l.self.log) (g.B.Device.state l.fn.self.backing) (g.B.Device.state l.self.backing)
+    l.fn.sector l.index (take (512 * l.index) l.into)

@@ -1,147 +1,48 @@
-use Rattle.std.proofs.Common.{◌≡◌, None, subst, sym}
-use Rattle.wb_engine.specs.Standing.{Standing, Told, Left}
-use Rattle.wb_engine.proofs.Engines.{front_inside}
-use Rattle.wb_engine.proofs.Turned.{IsTurning, IsBehind, IsStopped, turned_told, turned_left, stopped_told, stopped_left, turned_changed, turned_crash, stopped_changed}
+use Rattle.std.proofs.Common.{inl, inr, refl}
+use Rattle.std.proofs.lemmas.Result.{err_from_is_err_and}
+use Rattle.wb_engine.specs.declared.turning.Turn.TheVariants as turn
+use Rattle.wb_engine.proofs.Turns.{logs_alike, backs_alike, records_alike, passed_on, answered, says_nothing, not_true, idle}
 use Rattle.wb_engine.proofs.engine.Engine.turn.Goals as goal
 
-pub apply-requires-clause-inside : goal.apply-requires-clause-inside
-apply-requires-clause-inside g c =
-    let front = c.in-Some.ensures.front in
-    c.plan_segment.ensures.inside _ (front_inside _ _ _ c.in-Some.segment.now front.0 c.self.invariant.0 front.1)
+pub returns-in_err-log_next-clause-does : goal.returns-in_err-log_next-clause-does
+returns-in_err-log_next-clause-does g c =
+    let p = err_from_is_err_and c.from_residual.result c.from_residual.ensures.1 in
+    inl ((c.can_log.ensures.0 c.if-can_log.true).1, logs_alike (passed_on c.log_next.result c.from_residual.result _ _ c.in_err-log_next.was p.1 p.2) c.log_next.ensures.does, says_nothing turn.Logged _ _ p.1)
 
-pub returns-in-Ok-clause-told : goal.returns-in-Ok-clause-told
-returns-in-Ok-clause-told g c =
-    let front = c.in-Some.ensures.front in
-    let log = g.L.Device.state c.self.inside.log in
-    let backing = g.B.Device.state c.self.inside.backing in
-    let now = g.B.Device.state c.apply.new.backing in
-    let turning : IsTurning _ log backing c.in-Some.segment.now front.0 c.plan_segment.new.plan.blocks = record {
-      is = c.self.invariant.0;
-      up = subst (λ e. e.down ≡ None) (sym c.self.view_is) c.requires;
-      all = front.1;
-      put = c.plan_segment.ensures.put;
-      arranged = c.plan_segment.ensures.arranged;
-    } in
-    let gone = c.forget_front.ensures in
-    let behind : IsBehind _ c.forget_front.new.self = record { geometry = gone.kept.geometry; numbers = gone.numbers; absorbed = gone.absorbed; sealed = gone.sealed; current = gone.current } in
-    rw (← c.self.view_is) (λ base h stands. subst (λ b. Standing (Told (g.B.Device.state b)) c.forget_front.new.self base h) (sym gone.kept.backing)
-    (turned_told _ c.forget_front.new.self log backing c.in-Some.segment.now front.0 c.plan_segment.new.plan.blocks base h now turning behind c.in-Ok.ensures.ok stands))
+pub returns-then-can_log-clause-does : goal.returns-then-can_log-clause-does
+returns-then-can_log-clause-does g c = inl ((c.can_log.ensures.0 c.if-can_log.true).1, logs_alike (answered c.log_next.result _ turn.Logged c.in_ok-log_next.was) c.log_next.ensures.does, refl)
 
-pub returns-in-Ok-clause-left : goal.returns-in-Ok-clause-left
-returns-in-Ok-clause-left g c =
-    let front = c.in-Some.ensures.front in
-    let log = g.L.Device.state c.self.inside.log in
-    let backing = g.B.Device.state c.self.inside.backing in
-    let now = g.B.Device.state c.apply.new.backing in
-    let turning : IsTurning _ log backing c.in-Some.segment.now front.0 c.plan_segment.new.plan.blocks = record {
-      is = c.self.invariant.0;
-      up = subst (λ e. e.down ≡ None) (sym c.self.view_is) c.requires;
-      all = front.1;
-      put = c.plan_segment.ensures.put;
-      arranged = c.plan_segment.ensures.arranged;
-    } in
-    let gone = c.forget_front.ensures in
-    let behind : IsBehind _ c.forget_front.new.self = record { geometry = gone.kept.geometry; numbers = gone.numbers; absorbed = gone.absorbed; sealed = gone.sealed; current = gone.current } in
-    rw (← c.self.view_is) (λ base h stands. subst (λ b. Standing (Left (g.B.Device.state b)) c.forget_front.new.self base h) (sym gone.kept.backing)
-    (turned_left _ c.forget_front.new.self log backing c.in-Some.segment.now front.0 c.plan_segment.new.plan.blocks base h now (g.met.B.Device.sound c.self.inside.backing) (g.met.B.Device.sound c.apply.new.backing)
-    c.apply.ensures.same c.in-Ok.ensures.durable turning behind c.in-Ok.ensures.ok stands))
+pub returns-in_err-back_batch-clause-does : goal.returns-in_err-back_batch-clause-does
+returns-in_err-back_batch-clause-does g c =
+    let p = err_from_is_err_and c.from_residual-in_err-back_batch.result c.from_residual-in_err-back_batch.ensures.1 in
+    inr (inr (inl (
+      λ may. not_true c.can_log.ensures.1 c.if-can_log.false (c.requires, may),
+      λ may. not_true c.can_sync.ensures.1 c.if-can_sync.false (c.requires, may),
+      (c.can_back.ensures.0 c.if-can_back.true).1,
+      backs_alike (passed_on c.back_batch.result c.from_residual-in_err-back_batch.result _ _ c.in_err-back_batch.was p.1 p.2) c.back_batch.ensures.does,
+      says_nothing turn.Backed _ _ p.1,
+    )))
 
-pub returns-in-Ok-clause-changed : goal.returns-in-Ok-clause-changed
-returns-in-Ok-clause-changed g c =
-    let front = c.in-Some.ensures.front in
-    let log = g.L.Device.state c.self.inside.log in
-    let backing = g.B.Device.state c.self.inside.backing in
-    let now = g.B.Device.state c.apply.new.backing in
-    let turning : IsTurning _ log backing c.in-Some.segment.now front.0 c.plan_segment.new.plan.blocks = record {
-      is = c.self.invariant.0;
-      up = subst (λ e. e.down ≡ None) (sym c.self.view_is) c.requires;
-      all = front.1;
-      put = c.plan_segment.ensures.put;
-      arranged = c.plan_segment.ensures.arranged;
-    } in
-    rw (← c.self.view_is, c.forget_front.ensures.kept.backing) (λ base h stands.
-    turned_changed _ log backing c.in-Some.segment.now front.0 c.plan_segment.new.plan.blocks base h now turning c.in-Ok.ensures.ok stands)
+pub returns-then-can_back-clause-does : goal.returns-then-can_back-clause-does
+returns-then-can_back-clause-does g c =
+    inr (inr (inl (
+      λ may. not_true c.can_log.ensures.1 c.if-can_log.false (c.requires, may),
+      λ may. not_true c.can_sync.ensures.1 c.if-can_sync.false (c.requires, may),
+      (c.can_back.ensures.0 c.if-can_back.true).1,
+      backs_alike (answered c.back_batch.result _ turn.Backed c.in_ok-back_batch.was) c.back_batch.ensures.does,
+      refl,
+    )))
 
-pub returns-in-Ok-clause-crash : goal.returns-in-Ok-clause-crash
-returns-in-Ok-clause-crash g c =
-    let front = c.in-Some.ensures.front in
-    let log = g.L.Device.state c.self.inside.log in
-    let backing = g.B.Device.state c.self.inside.backing in
-    let now = g.B.Device.state c.apply.new.backing in
-    let turning : IsTurning _ log backing c.in-Some.segment.now front.0 c.plan_segment.new.plan.blocks = record {
-      is = c.self.invariant.0;
-      up = subst (λ e. e.down ≡ None) (sym c.self.view_is) c.requires;
-      all = front.1;
-      put = c.plan_segment.ensures.put;
-      arranged = c.plan_segment.ensures.arranged;
-    } in
-    rw (← c.self.view_is, c.forget_front.ensures.kept.backing) (λ base h stands.
-    turned_crash _ log backing c.in-Some.segment.now front.0 c.plan_segment.new.plan.blocks base h now turning c.apply.ensures.crash stands)
+pub returns-then-can_record-clause-does : goal.returns-then-can_record-clause-does
+returns-then-can_record-clause-does g c =
+    inr (inr (inr (inl (
+      λ may. not_true c.can_log.ensures.1 c.if-can_log.false (c.requires, may),
+      λ may. not_true c.can_sync.ensures.1 c.if-can_sync.false (c.requires, may),
+      λ may. not_true c.can_back.ensures.1 c.if-can_back.false (c.requires, may),
+      (c.can_record.ensures.0 c.if-can_record.true).1,
+      records_alike (answered c.put_record.result _ turn.Recorded c.in_ok-put_record.was) c.put_record.ensures.does,
+      refl,
+    ))))
 
-pub returns-in-Err-clause-told : goal.returns-in-Err-clause-told
-returns-in-Err-clause-told g c =
-    let front = c.in-Some.ensures.front in
-    let log = g.L.Device.state c.self.inside.log in
-    let backing = g.B.Device.state c.self.inside.backing in
-    let now = g.B.Device.state c.apply.new.backing in
-    let turning : IsTurning _ log backing c.in-Some.segment.now front.0 c.plan_segment.new.plan.blocks = record {
-      is = c.self.invariant.0;
-      up = subst (λ e. e.down ≡ None) (sym c.self.view_is) c.requires;
-      all = front.1;
-      put = c.plan_segment.ensures.put;
-      arranged = c.plan_segment.ensures.arranged;
-    } in
-    let gone = c.go_down.ensures in
-    let stopped : IsStopped _ c.go_down.new.self = record { geometry = gone.geometry; numbers = gone.numbers; absorbed = gone.absorbed; memory = gone.memory } in
-    rw (← c.self.view_is) (λ base h stands. subst (λ b. Standing (Told (g.B.Device.state b)) c.go_down.new.self base h) (sym gone.backing)
-    (stopped_told _ c.go_down.new.self log backing c.in-Some.segment.now front.0 c.plan_segment.new.plan.blocks base h now turning stopped c.in-Err.ensures.err stands))
-
-pub returns-in-Err-clause-left : goal.returns-in-Err-clause-left
-returns-in-Err-clause-left g c =
-    let front = c.in-Some.ensures.front in
-    let log = g.L.Device.state c.self.inside.log in
-    let backing = g.B.Device.state c.self.inside.backing in
-    let now = g.B.Device.state c.apply.new.backing in
-    let turning : IsTurning _ log backing c.in-Some.segment.now front.0 c.plan_segment.new.plan.blocks = record {
-      is = c.self.invariant.0;
-      up = subst (λ e. e.down ≡ None) (sym c.self.view_is) c.requires;
-      all = front.1;
-      put = c.plan_segment.ensures.put;
-      arranged = c.plan_segment.ensures.arranged;
-    } in
-    let gone = c.go_down.ensures in
-    let stopped : IsStopped _ c.go_down.new.self = record { geometry = gone.geometry; numbers = gone.numbers; absorbed = gone.absorbed; memory = gone.memory } in
-    rw (← c.self.view_is) (λ base h stands. subst (λ b. Standing (Left (g.B.Device.state b)) c.go_down.new.self base h) (sym gone.backing)
-    (stopped_left _ c.go_down.new.self log backing c.in-Some.segment.now front.0 c.plan_segment.new.plan.blocks base h now turning stopped c.apply.ensures.crash stands))
-
-pub returns-in-Err-clause-changed : goal.returns-in-Err-clause-changed
-returns-in-Err-clause-changed g c =
-    let front = c.in-Some.ensures.front in
-    let log = g.L.Device.state c.self.inside.log in
-    let backing = g.B.Device.state c.self.inside.backing in
-    let now = g.B.Device.state c.apply.new.backing in
-    let turning : IsTurning _ log backing c.in-Some.segment.now front.0 c.plan_segment.new.plan.blocks = record {
-      is = c.self.invariant.0;
-      up = subst (λ e. e.down ≡ None) (sym c.self.view_is) c.requires;
-      all = front.1;
-      put = c.plan_segment.ensures.put;
-      arranged = c.plan_segment.ensures.arranged;
-    } in
-    rw (← c.self.view_is, c.go_down.ensures.backing) (λ base h stands.
-    stopped_changed _ log backing c.in-Some.segment.now front.0 c.plan_segment.new.plan.blocks base h now turning c.in-Err.ensures.err stands)
-
-pub returns-in-Err-clause-crash : goal.returns-in-Err-clause-crash
-returns-in-Err-clause-crash g c =
-    let front = c.in-Some.ensures.front in
-    let log = g.L.Device.state c.self.inside.log in
-    let backing = g.B.Device.state c.self.inside.backing in
-    let now = g.B.Device.state c.apply.new.backing in
-    let turning : IsTurning _ log backing c.in-Some.segment.now front.0 c.plan_segment.new.plan.blocks = record {
-      is = c.self.invariant.0;
-      up = subst (λ e. e.down ≡ None) (sym c.self.view_is) c.requires;
-      all = front.1;
-      put = c.plan_segment.ensures.put;
-      arranged = c.plan_segment.ensures.arranged;
-    } in
-    rw (← c.self.view_is, c.go_down.ensures.backing) (λ base h stands.
-    turned_crash _ log backing c.in-Some.segment.now front.0 c.plan_segment.new.plan.blocks base h now turning c.apply.ensures.crash stands)
+pub returns-clause-step : goal.returns-clause-step
+returns-clause-step g c = idle c.args.self.now _ _ (g.met.L.Device.sound c.args.self.now.log) (g.met.B.Device.sound c.args.self.now.backing) c.requires

@@ -3,7 +3,7 @@ use Rattle.std.proofs.Common.{◌≡◌, ◌∷◌, List, subst}
 use Rattle.std.specs.Option.{IfSome}
 use Rattle.wb_header.specs.Segments.{Segment}
 use Rattle.wb_engine.specs.Memory.{MemoryContent}
-use Rattle.wb_engine.proofs.Readings.{first_lent}
+use Rattle.wb_engine.proofs.ListedReads.{first_lent}
 use Rattle.wb_engine.proofs.memory.Memory.front.Goals as goal
 
 pub returns-clause-front : goal.returns-clause-front

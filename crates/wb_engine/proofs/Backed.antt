@@ -1,0 +1,227 @@
+-- A step that only reads the log: a segment is written back, or was begun to be, or couldn't be read, or nothing is done.
+use Rattle.std.proofs.Common.{ℕ, suc, ◌≡◌, ◌+◌, ◌-◌, ◌<◌, ◌≤◌, List, [], length, Option, Some, None, IsSome, Result, OnOk, Ok, Err, true, false, inl, refl, ap, sym, ◌∙◌, subst, arith}
+use Rattle.std.specs.Result.{is_err}
+use Rattle.wb_geometry.specs.Image.{Image}
+use Rattle.wb_geometry.specs.Device.{State, IsDevice, IsSameDevice, NothingPending, Passes, ContentPasses, OnlyRead, CountsFaults, Rose}
+use Rattle.wb_geometry.specs.History.{HistoryEntry, after, last_write, PutsPartly}
+use Rattle.wb_geometry.specs.Layout.{places}
+use Rattle.wb_geometry.specs.Line.{Line, line_of, span}
+use Rattle.wb_geometry.specs.declared.geometry.Geometry.{Geometry}
+use Rattle.wb_geometry.proofs.Lines.{span-one}
+use Rattle.wb_geometry.proofs.Histories.{puts_all}
+use Rattle.wb_geometry.proofs.Moments.{weaker, content_weaker, passes_same, content_same, same_device}
+use Rattle.wb_header.specs.Text.{TextBlock}
+use Rattle.wb_header.specs.Standing.{StandsFor, entries_of}
+use Rattle.wb_log.specs.Kept.{metas_at}
+use Rattle.wb_back.proofs.Added.{WritesLast, AreDistinct-arranged, content-written, content-partly_written, crash-partly_written}
+use Rattle.wb_crash.specs.Numbers.{put_up_to}
+use Rattle.wb_crash.specs.Safety.{IsSafe}
+use Rattle.wb_crash.specs.Crash.{CrashInCall, WritesAlike}
+use Rattle.wb_crash.specs.declared.numbers.Numbers.{Numbers}
+use Rattle.wb_crash.proofs.Shown.{shown_before}
+use Rattle.wb_crash.proofs.Halves.{safe_log_kept, safe_back_tried, safe_back}
+use Rattle.wb_crash.proofs.Crash.{back_batch_word}
+use Rattle.wb_engine.specs.Memory.{MemoryContent, live, segment_at}
+use Rattle.wb_engine.specs.Content.{EngineContent}
+use Rattle.wb_engine.specs.Standing.{Standing, IsSynced, IsListed, line}
+use Rattle.wb_engine.specs.Stepping.{MayBack, IsPlanOf, IsStep}
+use Rattle.wb_engine.proofs.Among.{puts_same, puts_of_segment}
+use Rattle.wb_engine.proofs.ReadBack.{read_writes}
+use Rattle.wb_engine.proofs.Records.{record_up}
+
+-- ---- an engine of which only the last number that is back has moved
+
+-- all but the number of the last segment that is back
+pub record IsSameButBack (old new : Numbers) : Type 0 where
+  pub first : new.first ≡ old.first
+  pub recorded : new.recorded ≡ old.recorded
+  pub stable : new.stable ≡ old.stable
+  pub logged : new.logged ≡ old.logged
+  pub tried : new.tried ≡ old.tried
+  pub sealed : new.sealed ≡ old.sealed
+
+pub same_numbers : (n : Numbers) → IsSameButBack n n
+same_numbers n = record { first = refl; recorded = refl; stable = refl; logged = refl; tried = refl; sealed = refl }
+
+pub put_numbers : (k : ℕ) (n : Numbers) → IsSameButBack n (put_up_to k n)
+put_numbers k n = record { first = refl; recorded = refl; stable = refl; logged = refl; tried = refl; sealed = refl }
+
+pub record IsMoved {L B : Type 0} (old new : EngineContent L B) (n : Numbers) : Type 0 where
+  pub geometry : new.geometry ≡ old.geometry
+  pub numbers : new.numbers ≡ n
+  pub absorbed : new.absorbed ≡ old.absorbed
+  pub memory : new.memory ≡ old.memory
+
+abbrev AreHeldIn : MemoryContent → Line → Type 0
+AreHeldIn m l = (j : ℕ) → j < length (live m) → StandsFor (segment_at (live m) j).blocks (l.list (segment_at (live m) j).id)
+
+-- where nothing is pending in the log, nothing is after reads
+read_pending : (log now : State) → OnlyRead log now → NothingPending log → NothingPending now
+read_pending log now read nothing = record {
+  only = λ x left. let was = read.crash.now x left in read.content ∙ subst (λ (y : Image). log.content ≡ Some y) (sym was.2) (nothing.only was.0 was.1);
+}
+
+is_told : {X : Type 0} (o : Option X) → IsSome o → (x : X) × (o ≡ Some x)
+is_told (Some x) some = (x, refl)
+is_told None some = absurd (cc)
+
+none_alike : (list : ℕ → List HistoryEntry) (a : ℕ) → WritesAlike [] (span list a (a - a))
+none_alike list a k = let none : 0 ≡ a - a = omega arith in ap (λ (m : ℕ). last_write k (span list a m)) none
+
+one_segment : (list : ℕ → List HistoryEntry) (a : ℕ) → list (a + 1) ≡ span list a (a + 1 - a)
+one_segment list a =
+    let one : 1 ≡ a + 1 - a = omega arith in
+    let next : a + 1 ≡ suc a = omega arith in
+    ap list next ∙ sym (span-one list a) ∙ ap (span list a) one
+
+module _ {L B : Type 0} where
+  same_line : (old new : EngineContent L B) (base : Image) (h : List HistoryEntry) → new.geometry ≡ old.geometry → new.numbers.first ≡ old.numbers.first → line new base h ≡ line old base h
+  same_line old new base h geometry first =
+      ap (λ (g : Geometry). line_of (places g) new.numbers.first base h) geometry ∙ ap (λ (k : ℕ). line_of (places old.geometry) k base h) first
+
+  -- such an engine stands for what it stood for
+  moved_stands : (old new : EngineContent L B) (n : Numbers) (log new_log backing new_backing : State) (base : Image) (h : List HistoryEntry) → IsMoved old new n → IsSameButBack old.numbers n
+      → old.down ≡ None → OnlyRead log new_log → Standing old log backing base h → IsSafe old.geometry (line old base h) n new_log new_backing → Standing new new_log new_backing base h
+  moved_stands old new n log new_log backing new_backing base h moved numbers up read stands safe =
+      let lines : line old base h ≡ line new base h = sym (same_line old new base h moved.geometry (ap (λ (m : Numbers). m.first) moved.numbers ∙ numbers.first)) in
+      let recorded : new.numbers.recorded ≡ old.numbers.recorded = ap (λ (m : Numbers). m.recorded) moved.numbers ∙ numbers.recorded in
+      let logged : new.numbers.logged ≡ old.numbers.logged = ap (λ (m : Numbers). m.logged) moved.numbers ∙ numbers.logged in
+      record {
+        told = subst (λ c. IsSome c) (sym read.content) stands.told;
+        places = stands.places ∙ sym moved.absorbed;
+        memory = subst (λ (m : MemoryContent). AreHeldIn m (line new base h)) (sym moved.memory) (subst (AreHeldIn old.memory) lines stands.memory);
+        logged = λ s low high.
+            subst (λ (m : MemoryContent). IsListed (metas_at m.logged s) ((line new base h).list s)) (sym moved.memory)
+            (subst (λ (l : Line). IsListed (metas_at old.memory.logged s) (l.list s)) lines (stands.logged s (omega (arith, low, recorded)) (omega (arith, high, logged))));
+        safe =
+            subst (λ (m : Numbers). IsSafe new.geometry (line new base h) m new_log new_backing) (sym moved.numbers)
+            (subst (λ (g : Geometry). IsSafe g (line new base h) n new_log new_backing) (sym moved.geometry)
+            (subst (λ (l : Line). IsSafe old.geometry l n new_log new_backing) lines safe));
+        record_is = λ x shows. inl (record_up stands up x (shown_before read.crash read.content x shows) ∙ sym recorded);
+      }
+
+  -- a step in which the log was only read
+  pub read_step : (old new : EngineContent L B) (n : Numbers) (log new_log backing new_backing : State) → IsMoved old new n → IsSameButBack old.numbers n → old.down ≡ None → OnlyRead log new_log
+      → IsSameDevice backing new_backing
+      → (IsSynced old log backing → new.down ≡ None → NothingPending new_backing)
+      → ((base : Image) (h : List HistoryEntry) → Standing old log backing base h → IsSafe old.geometry (line old base h) n new_log new_backing)
+      → ((base : Image) (h : List HistoryEntry) → Standing old log backing base h → ContentPasses (PutsPartly h) backing new_backing)
+      → ((base : Image) (h : List HistoryEntry) → Standing old log backing base h → Passes (PutsPartly h) backing new_backing)
+      → ((base : Image) (h : List HistoryEntry) → Standing old log backing base h
+      → CrashInCall old.geometry (line old base h) old.numbers.stable old.numbers.tried log new_log backing new_backing)
+      → IsStep old new log new_log backing new_backing
+  read_step old new n log new_log backing new_backing moved numbers up read same durable safe changed left crash =
+      let stable : new.numbers.stable ≡ old.numbers.stable = ap (λ (m : Numbers). m.stable) moved.numbers ∙ numbers.stable in
+      let logged : new.numbers.logged ≡ old.numbers.logged = ap (λ (m : Numbers). m.logged) moved.numbers ∙ numbers.logged in
+      record {
+        moves = record {
+          stands = λ base h stands. moved_stands old new n log new_log backing new_backing base h moved numbers up read stands (safe base h stands);
+          changed = changed;
+          left = left;
+          synced = λ is. record {
+            written_back = durable is;
+            written = λ _ all. read_pending log new_log read (is.written up (sym stable ∙ all ∙ logged));
+          };
+          geometry = moved.geometry;
+          absorbed = moved.absorbed;
+          first = ap (λ (m : Numbers). m.first) moved.numbers ∙ numbers.first;
+          sealed = ap (λ (m : Numbers). m.sealed) moved.numbers ∙ numbers.sealed;
+          stable = omega (arith, stable);
+          same_log = read.same;
+          same_backing = same;
+        };
+        crash = λ base h stands.
+            subst (λ (high : ℕ). CrashInCall old.geometry (line old base h) old.numbers.stable high log new_log backing new_backing)
+            (sym (ap (λ (m : Numbers). m.tried) moved.numbers ∙ numbers.tried)) (crash base h stands);
+      }
+
+  -- ---- the segment behind the last that is back
+
+  -- the plan writes what the segment's entries do
+  plan_writes : (e : EngineContent L B) (log backing : State) (base : Image) (h : List HistoryEntry) (planned : List TextBlock) → MayBack e.numbers
+      → IsPlanOf e.geometry (e.numbers.back + 1) (metas_at e.memory.logged (e.numbers.back + 1)) log planned → Standing e log backing base h
+      → WritesLast planned ((line e base h).list (e.numbers.back + 1))
+  plan_writes e log backing base h planned may plan stands =
+      let ordered = stands.safe.ordered in
+      let told = is_told log.content stands.told in
+      record {
+        each = λ k.
+            plan.put told.0 told.1 k
+            ∙ read_writes e log backing base h told.0 (e.numbers.back + 1) stands told.1 (omega (arith, ordered.recorded)) (omega (arith, may, ordered.stable)) k;
+      }
+
+  plan_alike : (e : EngineContent L B) (base : Image) (h : List HistoryEntry) (planned : List TextBlock) → WritesLast planned ((line e base h).list (e.numbers.back + 1))
+      → WritesAlike (entries_of planned) (span (line e base h).list e.numbers.back (e.numbers.back + 1 - e.numbers.back))
+  plan_alike e base h planned writes k = writes.each k ∙ ap (last_write k) (one_segment (line e base h).list e.numbers.back)
+
+  -- whichever way the writing ends
+  module _ (old : EngineContent L B) (log new_log backing new_backing : State) (planned : List TextBlock) (log_device : IsDevice log) (device : IsDevice backing) (may : MayBack old.numbers)
+      (up : old.down ≡ None) (plan : IsPlanOf old.geometry (old.numbers.back + 1) (metas_at old.memory.logged (old.numbers.back + 1)) log planned) (read : OnlyRead log new_log)
+      (same : IsSameDevice backing new_backing) (pass : Passes (PutsPartly (entries_of planned)) backing new_backing) where
+    planned_left : (base : Image) (h : List HistoryEntry) → Standing old log backing base h → Passes (PutsPartly h) backing new_backing
+    planned_left base h stands =
+        weaker (λ x y left put. puts_of_segment (places old.geometry) old.numbers.first (old.numbers.back + 1) h x y put)
+        (crash-partly_written (AreDistinct-arranged planned plan.arranged) (plan_writes old log backing base h planned may plan stands) pass)
+
+    planned_crash : (base : Image) (h : List HistoryEntry) → Standing old log backing base h
+        → CrashInCall old.geometry (line old base h) old.numbers.stable old.numbers.tried log new_log backing new_backing
+    planned_crash base h stands =
+        back_batch_word (old.numbers.back + 1) (entries_of planned) stands.safe (omega arith) (omega (arith, may))
+        (plan_alike old base h planned (plan_writes old log backing base h planned may plan stands)) log_device device read.crash pass
+
+    -- the segment is written back
+    pub backed : (new : EngineContent L B) → IsMoved old new (put_up_to (old.numbers.back + 1) old.numbers) → NothingPending new_backing
+        → ContentPasses (λ x y. y ≡ after x (entries_of planned)) backing new_backing → IsStep old new log new_log backing new_backing
+    backed new moved nothing content =
+        read_step old new (put_up_to (old.numbers.back + 1) old.numbers) log new_log backing new_backing moved (put_numbers (old.numbers.back + 1) old.numbers) up read same (λ is _. nothing)
+        (λ base h stands.
+        safe_back (old.numbers.back + 1) (entries_of planned) (safe_log_kept stands.safe read.crash read.content) (omega arith) (omega (arith, may))
+        (plan_alike old base h planned (plan_writes old log backing base h planned may plan stands)) nothing content)
+        (λ base h stands.
+        content_weaker
+        (λ x y told is.
+        puts_of_segment (places old.geometry) old.numbers.first (old.numbers.back + 1) h x y
+        (subst (PutsPartly ((line old base h).list (old.numbers.back + 1)) x) (sym is) (puts_all ((line old base h).list (old.numbers.back + 1)) x)))
+        (content-written (plan_writes old log backing base h planned may plan stands) content))
+        planned_left planned_crash
+
+    -- some of its sectors are
+    pub partly_backed : (new : EngineContent L B) → IsMoved old new old.numbers → (new.down ≡ None → ⊥) → ContentPasses (PutsPartly (entries_of planned)) backing new_backing
+        → IsStep old new log new_log backing new_backing
+    partly_backed new moved down content =
+        read_step old new old.numbers log new_log backing new_backing moved (same_numbers old.numbers) up read same (λ is none. absurd (down none))
+        (λ base h stands.
+        safe_back_tried (old.numbers.back + 1) (entries_of planned) (safe_log_kept stands.safe read.crash read.content) (omega arith) (omega (arith, may))
+        (plan_alike old base h planned (plan_writes old log backing base h planned may plan stands)) pass content)
+        (λ base h stands.
+        content_weaker (λ x y told put. puts_of_segment (places old.geometry) old.numbers.first (old.numbers.back + 1) h x y put)
+        (content-partly_written (AreDistinct-arranged planned plan.arranged) (plan_writes old log backing base h planned may plan stands) content))
+        planned_left planned_crash
+
+  -- the backing device isn't called
+  pub unbacked : (old new : EngineContent L B) (log new_log backing : State) → IsDevice log → IsDevice backing → old.down ≡ None → OnlyRead log new_log → IsMoved old new old.numbers
+      → IsStep old new log new_log backing backing
+  unbacked old new log new_log backing log_device device up read moved =
+      read_step old new old.numbers log new_log backing backing moved (same_numbers old.numbers) up read (same_device backing) (λ is _. is.written_back up)
+      (λ base h stands. safe_log_kept stands.safe read.crash read.content)
+      (λ base h stands. content_same (λ x told. puts_same h x) refl)
+      (λ base h stands. passes_same (λ x left. puts_same h x))
+      (λ base h stands.
+      back_batch_word old.numbers.back [] stands.safe (omega arith) stands.safe.ordered.back (none_alike (line old base h).list old.numbers.back) log_device device read.crash
+      (passes_same (λ x left. puts_same [] x)))
+
+-- ---- results
+
+-- what is known at an `Err`
+pub failed_counts : {T E : Type 0} {before now : ℕ} (r : Result T E) → is_err r ≡ true → CountsFaults before now r → (before ≤ now) × Rose before now
+failed_counts (Ok x) is counts = absurd (cc)
+failed_counts (Err e) is counts = (counts.later, counts.failed)
+
+-- and at an `Ok`
+pub ok_there : {T E P : Type 0} (r : Result T E) → is_err r ≡ false → OnOk r P → P
+ok_there (Ok x) is holds = holds
+ok_there (Err e) is holds = absurd (cc)
+
+pub kept_there : {T E : Type 0} {before now : ℕ} (r : Result T E) → is_err r ≡ false → CountsFaults before now r → now ≡ before
+kept_there (Ok x) is counts = counts.kept
+kept_there (Err e) is counts = absurd (cc)

@@ -1,0 +1,175 @@
+-- The steps of the engine: a segment is logged, the log is synced, a segment is written back, and that is recorded.
+use Rattle.std.specs.Prelude.{ℕ, ◌≡◌, ◌⊎◌, ◌+◌, ◌-◌, ◌*◌, ◌<◌, ◌≤◌, List, [], ◌∷◌, ◌++◌, length, drop, map, All, None, Some, Result, Ok, Err, OnOk, OnErr, IfOk, IfErr}
+use Rattle.std.specs.List.{enumerate_from}
+use Rattle.wb_geometry.specs.Image.{Image, bytes_at}
+use Rattle.wb_geometry.specs.Device.{State, Passes, ContentPasses, NothingPending, IsSameDevice, OnlyRead, HasCause, CountsFaultsWhere, next_count}
+use Rattle.wb_geometry.specs.History.{HistoryEntry, last_write, after, PutsPartly}
+use Rattle.wb_geometry.specs.Layout.{slot_start}
+use Rattle.wb_geometry.specs.declared.geometry.Geometry.{Geometry}
+use Rattle.wb_geometry.specs.declared.which.Which.{Which}
+use Rattle.wb_geometry.specs.declared.which.Which.TheVariants.{Log, Backing}
+use Rattle.wb_header.specs.Text.{TextBlock}
+use Rattle.wb_header.specs.Segments.{Segment}
+use Rattle.wb_header.specs.Standing.{entries_of}
+use Rattle.wb_header.specs.declared.sealed.Meta.{Meta}
+use Rattle.wb_super.specs.Recording.{Records, RecordsOrNot}
+use Rattle.wb_log.specs.Kept.{metas_of, metas_at}
+use Rattle.wb_log.specs.Writing.{WritesSegment}
+use Rattle.wb_back.specs.Plans.{IsArranged, AreInside}
+use Rattle.wb_crash.specs.Crash.{CrashInCall}
+use Rattle.wb_crash.specs.Numbers.{trying, written, synced, put_up_to, recording}
+use Rattle.wb_crash.specs.declared.numbers.Numbers.{Numbers}
+use Rattle.wb_engine.specs.Content.{EngineContent}
+use Rattle.wb_engine.specs.Standing.{Standing, IsSynced, IsOffDevices, line}
+use Rattle.wb_engine.specs.declared.turning.Turn.{Turn}
+use Rattle.wb_engine.specs.declared.turning.Turn.TheVariants as turn
+
+-- ---- when a step can be made
+
+-- the next segment is sealed, and the slot that it takes has none that recovery may need
+abbrev pub MayLog : Geometry → Numbers → Type 0
+MayLog g e = (e.logged < e.sealed) × (e.logged + 1 ≤ e.recorded + g.slots)
+
+-- a segment was logged since the last sync
+abbrev pub MaySync : Numbers → Type 0
+MaySync e = e.stable < e.logged
+
+-- a segment is safe in the log and not written back
+abbrev pub MayBack : Numbers → Type 0
+MayBack e = e.back < e.stable
+
+-- a segment is written back and not recorded
+abbrev pub MayRecord : Numbers → Type 0
+MayRecord e = e.recorded < e.back
+
+-- ---- what each step does, in full or until a device fails
+
+-- The text of the oldest sealed segment came into its slot, and nothing else was written or synced.
+pub record LogsNext {L B T : Type 0} (old new : EngineContent L B) (log new_log : State) (result : Result T Which) : Type 0 where
+  pub writes : (front : Segment) (rest : List Segment) → old.memory.sealed ≡ front ∷ rest → WritesSegment old.geometry front.id front.blocks log new_log result
+  pub ok : OnOk result ((new.numbers ≡ written old.numbers) × (new.down ≡ None))
+  pub failed : IfErr result (λ which. (which ≡ Log) × (new.numbers ≡ trying old.numbers) × (new.down ≡ Some Log))
+  pub cause : HasCause log new_log result
+  pub syncs : new_log.syncs ≡ log.syncs
+  pub reads : new_log.reads ≡ log.reads
+  pub backing : new.backing ≡ old.backing
+
+-- The log was synced, by which all that is logged is stable.
+pub record SyncsLog {L B T : Type 0} (old new : EngineContent L B) (log new_log : State) (result : Result T Which) : Type 0 where
+  pub content : new_log.content ≡ log.content
+  pub left : Passes (λ x y. y ≡ x) log new_log
+  pub durable : OnOk result (NothingPending new_log)
+  pub ok : OnOk result ((new.numbers ≡ synced old.numbers) × (new.down ≡ None))
+  pub failed : IfErr result (λ which. (which ≡ Log) × (new.numbers ≡ old.numbers) × (new.down ≡ Some Log))
+  pub cause : HasCause log new_log result
+  pub syncs : OnOk result (new_log.syncs ≡ next_count log.syncs)
+  pub not_synced : OnErr result ((log.syncs ≤ new_log.syncs) × (new_log.syncs ≤ next_count log.syncs))
+  pub reads : new_log.reads ≡ log.reads
+  pub backing : new.backing ≡ old.backing
+
+-- the blocks of segment `id`, of which this is kept, with the bytes that stand in its slot
+abbrev pub blocks_in_log : Geometry → Image → (id : ℕ) → List Meta → List TextBlock
+blocks_in_log g x id metas = map (λ p. record { number = p.1.block; bits = p.1.bits; payload = bytes_at x (slot_start g id + 8 * (1 + p.0)) 8 }) (enumerate_from 0 metas)
+
+-- The plan's blocks are among those that are kept of the segment, and it puts what stands of them in the log.
+pub record IsPlanOf (g : Geometry) (id : ℕ) (metas : List Meta) (log : State) (planned : List TextBlock) : Type 0 where
+  pub arranged : IsArranged planned
+  pub inside : (sectors : ℕ) → All (λ (meta : Meta). 8 * meta.block + 8 ≤ sectors) metas → AreInside sectors planned
+  pub put : (x : Image) → log.content ≡ Some x → (k : ℕ) → last_write k (entries_of planned) ≡ last_write k (entries_of (blocks_in_log g x id metas))
+
+-- The next segment was read from the log, by a read a block at most, and its blocks put to the backing device, which was
+-- synced once.
+pub record WritesBack {L B T : Type 0} (old new : EngineContent L B) (log new_log backing new_backing : State) (result : Result T Which) : Type 0 where
+  pub planned : List TextBlock
+  pub plan : OnOk result (IsPlanOf old.geometry (old.numbers.back + 1) (metas_at old.memory.logged (old.numbers.back + 1)) log planned)
+  pub content : OnOk result (ContentPasses (λ y z. z ≡ after y (entries_of planned)) backing new_backing)
+  pub durable : OnOk result (NothingPending new_backing)
+  pub syncs : OnOk result (new_backing.syncs ≡ next_count backing.syncs)
+  pub not_synced : OnErr result ((backing.syncs ≤ new_backing.syncs) × (new_backing.syncs ≤ next_count backing.syncs))
+  pub only_read : OnlyRead log new_log
+  pub log_reads : new_log.reads ≤ log.reads + length (metas_at old.memory.logged (old.numbers.back + 1))
+  pub reads : new_backing.reads ≡ backing.reads
+  pub ok : OnOk result ((new.numbers ≡ put_up_to (old.numbers.back + 1) old.numbers) × (new.down ≡ None))
+  pub failed : IfErr result (λ which. (new.numbers ≡ old.numbers) × (new.down ≡ Some which))
+  pub log_cause : CountsFaultsWhere (result ≡ Err Log) log.faults new_log.faults
+  pub backing_cause : CountsFaultsWhere (result ≡ Err Backing) backing.faults new_backing.faults
+
+-- The record was written, by one write and one sync.
+pub record PutsRecord {L B T : Type 0} (old new : EngineContent L B) (log new_log : State) (result : Result T Which) : Type 0 where
+  pub content : OnOk result (ContentPasses (Records old.numbers.back) log new_log)
+  pub left : Passes (RecordsOrNot old.numbers.back) log new_log
+  pub durable : OnOk result (NothingPending new_log)
+  pub ok : OnOk result ((new.numbers ≡ recording old.numbers) × (new.down ≡ None))
+  pub failed : IfErr result (λ which. (which ≡ Log) × (new.numbers ≡ old.numbers) × (new.down ≡ Some Log))
+  pub cause : HasCause log new_log result
+  pub syncs : OnOk result (new_log.syncs ≡ next_count log.syncs)
+  pub not_synced : OnErr result ((log.syncs ≤ new_log.syncs) × (new_log.syncs ≤ next_count log.syncs))
+  pub reads : new_log.reads ≡ log.reads
+  pub backing : new.backing ≡ old.backing
+
+-- ---- what each step keeps
+
+-- The engine went on, and its devices with it: it stands for what it stood for, what was stable still is, and no sector of the
+-- backing device changed, or is changed by a crash, but to what an entry of the history writes.
+pub record Moves {L B : Type 0} (old new : EngineContent L B) (log new_log backing new_backing : State) : Type 0 where
+  pub stands : (base : Image) (history : List HistoryEntry) → Standing old log backing base history → Standing new new_log new_backing base history
+  pub changed : (base : Image) (history : List HistoryEntry) → Standing old log backing base history → ContentPasses (PutsPartly history) backing new_backing
+  pub left : (base : Image) (history : List HistoryEntry) → Standing old log backing base history → Passes (PutsPartly history) backing new_backing
+  pub synced : IsSynced old log backing → IsSynced new new_log new_backing
+  pub geometry : new.geometry ≡ old.geometry
+  pub absorbed : new.absorbed ≡ old.absorbed
+  pub first : new.numbers.first ≡ old.numbers.first
+  pub sealed : new.numbers.sealed ≡ old.numbers.sealed
+  pub stable : old.numbers.stable ≤ new.numbers.stable
+  pub same_log : IsSameDevice log new_log
+  pub same_backing : IsSameDevice backing new_backing
+
+-- So it did in a step, and a crash in the step's course loses nothing that was stable before it.
+pub record IsStep {L B : Type 0} (old new : EngineContent L B) (log new_log backing new_backing : State) : Type 0 where
+  pub moves : Moves old new log new_log backing new_backing
+  pub crash : (base : Image) (history : List HistoryEntry) → Standing old log backing base history
+      → CrashInCall old.geometry (line old base history) old.numbers.stable new.numbers.tried log new_log backing new_backing
+
+-- ---- a turn
+
+-- the answer at `Ok` is this
+abbrev pub Says : Turn → Result Turn Which → Type 0
+Says is result = IfOk result (λ turn. turn ≡ is)
+
+-- A turn does the first of the four steps that can be made, or nothing where none can.
+abbrev pub IsTurn : {L B : Type 0} (old new : EngineContent L B) (log new_log backing new_backing : State) → Result Turn Which → Type 0
+IsTurn old new log new_log backing new_backing result =
+    (MayLog old.geometry old.numbers × LogsNext old new log new_log result × Says turn.Logged result)
+    ⊎ ((MayLog old.geometry old.numbers → ⊥) × MaySync old.numbers × SyncsLog old new log new_log result × Says turn.Synced result)
+    ⊎ ((MayLog old.geometry old.numbers → ⊥) × (MaySync old.numbers → ⊥) × MayBack old.numbers
+    × WritesBack old new log new_log backing new_backing result × Says turn.Backed result)
+    ⊎ ((MayLog old.geometry old.numbers → ⊥) × (MaySync old.numbers → ⊥) × (MayBack old.numbers → ⊥) × MayRecord old.numbers
+    × PutsRecord old new log new_log result × Says turn.Recorded result)
+    ⊎ ((MayLog old.geometry old.numbers → ⊥) × (MaySync old.numbers → ⊥) × (MayBack old.numbers → ⊥) × (MayRecord old.numbers → ⊥)
+    × (result ≡ Ok turn.Idle) × (new ≡ old))
+
+-- so many turns are made at most until there is nothing to do
+abbrev pub turns_left : Numbers → ℕ
+turns_left e = 4 * (e.sealed - e.logged) + 3 * (e.logged - e.stable) + 2 * (e.stable - e.back) + (e.back - e.recorded)
+
+-- ---- in memory
+
+-- the oldest sealed segment is in the log, and nothing else changed
+pub record IsFrontKept {L B : Type 0} (old new : EngineContent L B) : Type 0 where
+  pub numbers : new.numbers ≡ written old.numbers
+  pub sealed : new.memory.sealed ≡ drop 1 old.memory.sealed
+  pub logged : (front : Segment) (rest : List Segment) → old.memory.sealed ≡ front ∷ rest
+      → (new.memory.logged.kept ≡ old.memory.logged.kept ++ metas_of front.blocks ∷ []) × (new.memory.logged.first + length old.memory.logged.kept ≡ front.id)
+  pub current : new.memory.current ≡ old.memory.current
+  pub kept : IsOffDevices old new
+  pub absorbed : new.absorbed ≡ old.absorbed
+
+-- what is written back is recorded, and nothing is kept of it
+pub record IsRecordedGone {L B : Type 0} (old new : EngineContent L B) : Type 0 where
+  pub numbers : new.numbers ≡ recording old.numbers
+  pub sealed : new.memory.sealed ≡ old.memory.sealed
+  pub logged : new.memory.logged.kept ≡ drop (old.numbers.back + 1 - old.memory.logged.first) old.memory.logged.kept
+  pub last : new.memory.logged.first + length new.memory.logged.kept ≡ old.memory.logged.first + length old.memory.logged.kept
+  pub current : new.memory.current ≡ old.memory.current
+  pub kept : IsOffDevices old new
+  pub absorbed : new.absorbed ≡ old.absorbed

@@ -1,0 +1,144 @@
+//! The calls that each step makes of both devices.
+use super::{
+    FIRST, LOG_SECTORS, SECTORS, cache_over, former_bytes, holds, log_of, reads_third, turn,
+    write_third,
+};
+use crate::{Closed, Engine, Turn};
+use std::alloc::Global;
+use std::test::Fail;
+use wb_device::{DeviceCall, ListingDevice, SteadyDevice};
+
+type Listed = ListingDevice<SteadyDevice>;
+
+/// A cache over new devices that list their calls.
+fn listed_cache(alloc: Global) -> Result<Engine<Listed, Listed>, Fail> {
+    let log = ListingDevice::over(alloc, log_of(alloc, LOG_SECTORS, Some(FIRST.into()))?, 64)?;
+    let backing = SteadyDevice::of(former_bytes(alloc, SECTORS)?);
+    cache_over(alloc, log, ListingDevice::over(alloc, backing, 64)?)
+}
+
+/// So many reads, writes and syncs.
+type Counts = (u64, u64, u64);
+
+/// How often the log and the backing device were called, since they were made.
+fn counts_of(log: &Listed, backing: &Listed) -> (Counts, Counts) {
+    let (log, backing) = (log.counts(), backing.counts());
+    (
+        (log.reads, log.writes, log.syncs),
+        (backing.reads, backing.writes, backing.syncs),
+    )
+}
+
+/// Whether both devices of an engine were called so often.
+fn was_called(engine: &Engine<Listed, Listed>, log: Counts, backing: Counts) -> bool {
+    counts_of(&engine.log, &engine.backing) == (log, backing)
+}
+
+/// What each turn does, and how often the log and the backing device were called then since they were opened: two segments
+/// are logged by a write each, one sync covers both, and each is written back by the reads of its blocks, a write for each
+/// run of sectors, and a sync.
+const STEPS: [(Turn, Counts, Counts); 7] = [
+    (Turn::Logged, (6, 1, 1), (0, 0, 1)),
+    (Turn::Logged, (6, 2, 1), (0, 0, 1)),
+    (Turn::Synced, (6, 2, 2), (0, 0, 1)),
+    (Turn::Backed, (9, 2, 2), (0, 3, 2)),
+    (Turn::Backed, (10, 2, 2), (0, 4, 3)),
+    (Turn::Recorded, (10, 3, 3), (0, 4, 3)),
+    (Turn::Idle, (10, 3, 3), (0, 4, 3)),
+];
+
+/// Two segments: one of three blocks, and one of one block.
+fn write_two_segments(alloc: Global, engine: &mut Engine<Listed, Listed>) -> Result<(), Fail> {
+    for block in [0, 1, 2, 3, 3, 3] {
+        let done = write_third(alloc, engine, block)?;
+        holds(done, "there was no room")?;
+    }
+    holds(reads_third(engine, 1), "a sector in memory isn't read")?;
+    let quiet = was_called(engine, (6, 0, 1), (0, 0, 1));
+    holds(quiet, "a device was called for a sector in memory")
+}
+
+/// The turns that put both to their places.
+fn count_turns(engine: &mut Engine<Listed, Listed>) -> Result<(), Fail> {
+    for (want, log, backing) in &STEPS {
+        holds(turn(engine) == Some(Ok(*want)), "a turn did something else")?;
+        holds(was_called(engine, *log, *backing), "other calls")?;
+    }
+    Ok(())
+}
+
+/// The calls of the log behind its opening: each segment goes by one write of its header and its blocks, and the record by
+/// one of a sector.
+const CALLS: [DeviceCall; 9] = [
+    DeviceCall::Write {
+        at: 2144,
+        sectors: 32,
+    },
+    DeviceCall::Write {
+        at: 2048,
+        sectors: 16,
+    },
+    DeviceCall::Sync,
+    DeviceCall::Read {
+        at: 2152,
+        sectors: 8,
+    },
+    DeviceCall::Read {
+        at: 2160,
+        sectors: 8,
+    },
+    DeviceCall::Read {
+        at: 2168,
+        sectors: 8,
+    },
+    DeviceCall::Read {
+        at: 2056,
+        sectors: 8,
+    },
+    DeviceCall::Write {
+        at: 2047,
+        sectors: 1,
+    },
+    DeviceCall::Sync,
+];
+
+#[test]
+fn each_turn_makes_the_calls_that_it_needs(rt: HostRuntime) -> Result<(), Fail> {
+    let alloc = rt.alloc();
+    let mut engine = listed_cache(alloc)?;
+    write_two_segments(alloc, &mut engine)?;
+    count_turns(&mut engine)?;
+    assert!(rt; engine.log.calls().get(7..) == Some(CALLS.as_slice()));
+    Ok(())
+}
+
+/// A sector in the log costs one read of it, and one on the backing device a read there.
+fn count_reads(alloc: Global, engine: &mut Engine<Listed, Listed>) -> Result<(), Fail> {
+    write_two_segments(alloc, engine)?;
+    holds(turn(engine) == Some(Ok(Turn::Logged)), "it isn't logged")?;
+    holds(reads_third(engine, 1), "a sector in the log isn't read")?;
+    holds(
+        was_called(engine, (7, 1, 1), (0, 0, 1)),
+        "not one read of the log",
+    )?;
+    holds(!reads_third(engine, 7), "a sector was written")?;
+    holds(
+        was_called(engine, (7, 1, 1), (1, 0, 1)),
+        "not one read of the backing device",
+    )
+}
+
+/// What closing then did of both: a segment was left to log, one sync covers both, and a record.
+fn closed_well(closed: &Closed<Listed, Listed>) -> bool {
+    closed.fault.is_none() && counts_of(&closed.log, &closed.backing) == ((11, 3, 3), (1, 4, 3))
+}
+
+#[test]
+fn a_read_and_a_close_make_the_calls_that_they_need(rt: HostRuntime) -> Result<(), Fail> {
+    let alloc = rt.alloc();
+    let mut engine = listed_cache(alloc)?;
+    count_reads(alloc, &mut engine)?;
+    let closed = engine.close();
+    assert!(rt; closed_well(&closed));
+    Ok(())
+}

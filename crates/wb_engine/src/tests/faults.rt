@@ -1,0 +1,144 @@
+//! An engine of which a device fails: it is down, absorbs while there is room, and still reads.
+use super::{
+    SECTORS, cache_of, cache_over, failing_backing, failing_log, former_bytes, holds, reads_third,
+    turn, write_third,
+};
+use crate::{Closed, Engine, Turn};
+use std::alloc::Global;
+use std::test::Fail;
+use wb_device::{Device, FaultPlan, MemoryDevice, PlannedFault, SteadyDevice};
+use wb_geometry::{Geometry, Which};
+use wb_super::format;
+
+/// Writes the third sectors of these blocks, for which there is room.
+fn write_all<L: Device, B: Device>(
+    alloc: Global,
+    engine: &mut Engine<L, B>,
+    blocks: &[u8],
+) -> Result<(), Fail> {
+    for block in blocks {
+        let done = write_third(alloc, engine, *block)?;
+        holds(done, "there was no room")?;
+    }
+    Ok(())
+}
+
+/// Whether the third sector of each of the first blocks is read.
+fn reads_all<L: Device, B: Device>(engine: &mut Engine<L, B>, blocks: u8) -> bool {
+    (0..blocks).all(|block| reads_third(engine, block))
+}
+
+/// Makes turns, each of which does this.
+fn take_turns<L: Device, B: Device>(
+    engine: &mut Engine<L, B>,
+    turns: &[Result<Turn, Which>],
+) -> Result<(), Fail> {
+    for want in turns {
+        let found = turn(engine);
+        holds(found == Some(*want), "a turn did something else")?;
+    }
+    Ok(())
+}
+
+/// Fills a cache that is down by this device, reads all of it, and sees that no turn is made and no more comes.
+fn fill_down<L: Device, B: Device>(
+    alloc: Global,
+    engine: &mut Engine<L, B>,
+    by: Which,
+    blocks: &[u8],
+    count: u8,
+) -> Result<(), Fail> {
+    holds(engine.down() == Some(by), "it isn't down by the device")?;
+    holds(turn(engine).is_none(), "a turn was made")?;
+    write_all(alloc, engine, blocks)?;
+    let more = write_third(alloc, engine, 6)?;
+    holds(!more, "there was still room")?;
+    holds(
+        reads_all(engine, count),
+        "a block is read as something else",
+    )
+}
+
+/// A write to the backing device fails.
+fn fail_writing_back(
+    alloc: Global,
+    engine: &mut Engine<SteadyDevice, MemoryDevice>,
+) -> Result<(), Fail> {
+    write_all(alloc, engine, &[0, 1, 2, 3])?;
+    take_turns(
+        engine,
+        &[Ok(Turn::Logged), Ok(Turn::Synced), Err(Which::Backing)],
+    )?;
+    fill_down(alloc, engine, Which::Backing, &[4, 5, 6, 7, 7], 8)?;
+    holds(engine.backing.calls() == 2, "the device was called again")
+}
+
+#[test]
+fn a_failed_write_back_takes_it_down(rt: HostRuntime) -> Result<(), Fail> {
+    let alloc = rt.alloc();
+    let mut engine = cache_of(alloc, failing_backing(alloc, 1)?)?;
+    fail_writing_back(alloc, &mut engine)?;
+    let closed = engine.close();
+    assert!(rt; closed.fault == Some(Which::Backing) && closed.backing.calls() == 2);
+    Ok(())
+}
+
+/// A write to the log fails.
+fn fail_logging(
+    alloc: Global,
+    engine: &mut Engine<MemoryDevice, SteadyDevice>,
+) -> Result<(), Fail> {
+    write_all(alloc, engine, &[0, 1, 2, 3])?;
+    take_turns(engine, &[Err(Which::Log)])?;
+    fill_down(alloc, engine, Which::Log, &[4, 5], 6)?;
+    holds(engine.log.calls() == 8, "the device was called again")
+}
+
+#[test]
+fn a_failed_log_write_takes_it_down(rt: HostRuntime) -> Result<(), Fail> {
+    let alloc = rt.alloc();
+    // To open it took two reads, a sync, and a read of each of the four slots.
+    let log = failing_log(alloc, 7)?;
+    let mut engine = cache_over(alloc, log, SteadyDevice::of(former_bytes(alloc, SECTORS)?))?;
+    fail_logging(alloc, &mut engine)?;
+    let closed = engine.close();
+    assert!(rt; closed.fault == Some(Which::Log) && closed.log.calls() == 8);
+    Ok(())
+}
+
+/// A log of eight slots with a place each, whose third write of a segment fails and stores nothing. To open it takes two
+/// reads, a sync, and a read of each slot.
+fn narrow_log(alloc: Global) -> Result<MemoryDevice, Fail> {
+    let mut log = SteadyDevice::of(vec![in alloc; 0; 2176 * 512]?);
+    format(&mut log, &Geometry::new(4, 8, 2, 64)?)?;
+    let faults = vec![in alloc;
+        PlannedFault {
+            call: 13,
+            sectors: 0
+        },
+    ]?;
+    Ok(MemoryDevice::of(alloc, log.into_bytes(), FaultPlan { faults, stop: None })?)
+}
+
+/// Two segments are logged, and the write of the third fails.
+fn fail_third(alloc: Global, engine: &mut Engine<MemoryDevice, SteadyDevice>) -> Result<(), Fail> {
+    write_all(alloc, engine, &[0, 1])?;
+    take_turns(engine, &[Ok(Turn::Logged)])?;
+    write_all(alloc, engine, &[2])?;
+    take_turns(engine, &[Ok(Turn::Logged)])?;
+    take_turns(engine, &[Err(Which::Log)])?;
+    fill_down(alloc, engine, Which::Log, &[3], 4)?;
+    holds(engine.log.calls() > 14, "no sector is read from the log")
+}
+
+#[test]
+fn the_third_write_of_a_segment_fails(rt: HostRuntime) -> Result<(), Fail> {
+    let alloc = rt.alloc();
+    let log = narrow_log(alloc)?;
+    let mut engine = cache_over(alloc, log, SteadyDevice::of(former_bytes(alloc, SECTORS)?))?;
+    fail_third(alloc, &mut engine)?;
+    let calls = engine.log.calls();
+    let closed = engine.close();
+    assert!(rt; closed.fault == Some(Which::Log) && closed.log.calls() == calls);
+    Ok(())
+}

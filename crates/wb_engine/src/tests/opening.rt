@@ -1,0 +1,148 @@
+//! Caches that are opened, or refused.
+use super::{
+    FIRST, LOG_SECTORS, SECTOR_BYTES, SECTORS, failing_backing, failing_log, former_bytes, log_of,
+    stopping_at,
+};
+use crate::{Engine, OpenCause};
+use std::alloc::Global;
+use std::process::Abort;
+use std::test::Fail;
+use wb_device::{Device, MemoryDevice, SteadyDevice};
+use wb_super::SuperRefused;
+
+/// The record with which a cache over this log is opened, or why it is refused. The backing device has so many sectors.
+fn opened<L: Device>(alloc: Global, log: L, sectors: u32) -> Result<Result<u64, OpenCause>, Fail> {
+    let backing = SteadyDevice::of(former_bytes(alloc, sectors)?);
+    Ok(match Engine::open(alloc, log, backing) {
+        Ok(engine) => Ok(engine.first()),
+        Err(stop) => Err(stop.cause),
+    })
+}
+
+/// The sectors of a log, its record where it is formatted, the sectors of the backing device, and what is answered.
+const ROWS: [(u32, Option<u64>, u32, Result<u64, OpenCause>); 6] = [
+    (2047, None, 56, Err(OpenCause::Super(NO_FRONT))),
+    (2176, None, 56, Err(OpenCause::Super(SuperRefused::Magic))),
+    (
+        2176,
+        Some(MOST_RECORDED + 1),
+        56,
+        Err(OpenCause::IdsSpent(MOST_RECORDED + 1)),
+    ),
+    (
+        2176,
+        Some(MOST_RECORDED),
+        56,
+        Err(OpenCause::Backing { needs: 64, has: 56 }),
+    ),
+    (2176, Some(MOST_RECORDED), 64, Ok(MOST_RECORDED)),
+    (2176, Some(0), 72, Ok(0)),
+];
+
+const NO_FRONT: SuperRefused = SuperRefused::Small {
+    needs: 2048,
+    has: 2047,
+};
+
+/// The greatest record that leaves ids for a session of four slots.
+const MOST_RECORDED: u64 = (1 << 48) - 8;
+
+/// A cache was opened with this record, or refused so.
+fn is_answered(rt: &impl Abort, found: Result<u64, OpenCause>, want: Result<u64, OpenCause>) {
+    assert_eq!(rt; found, want);
+}
+
+#[test]
+fn an_engine_is_opened_or_refused(rt: HostRuntime) -> Result<(), Fail> {
+    for (log_sectors, recorded, sectors, want) in &ROWS {
+        let log = log_of(rt.alloc(), *log_sectors, *recorded)?;
+        let found = opened(rt.alloc(), log, *sectors)?;
+        is_answered(&rt, found, *want);
+    }
+    Ok(())
+}
+
+/// A formatted log with these ids in its slots.
+fn log_with(alloc: Global, ids: &[u64; 4]) -> Result<SteadyDevice, Fail> {
+    let mut log = log_of(alloc, LOG_SECTORS, Some(FIRST.into()))?;
+    let mut at: u32 = 2048;
+    for id in ids {
+        let mut sector = [0; SECTOR_BYTES];
+        sector[..8].copy_from_slice(&id.to_le_bytes());
+        if u64::from(at) < log.sectors() {
+            log.write(at.into(), &sector)?;
+        }
+        at = at.wrapping_add(32);
+    }
+    Ok(log)
+}
+
+/// The ids in the slots of a log, and what is answered.
+const STRAYS: [([u64; 4], Result<u64, OpenCause>); 3] = [
+    ([7, 0, 6, 7], Ok(7)),
+    ([7, 6, 9, 8], Err(OpenCause::Stray { slot: 2, id: 9 })),
+    ([8, 9, 0, 0], Err(OpenCause::Stray { slot: 0, id: 8 })),
+];
+
+#[test]
+fn an_id_above_the_record_is_refused(rt: HostRuntime) -> Result<(), Fail> {
+    for (ids, want) in &STRAYS {
+        let log = log_with(rt.alloc(), ids)?;
+        let found = opened(rt.alloc(), log, SECTORS)?;
+        is_answered(&rt, found, *want);
+    }
+    Ok(())
+}
+
+/// No call of a device.
+const NEVER: u64 = u64::MAX;
+
+/// The calls from which on the log and the backing device fail, what is answered, and how many calls of each were made.
+const FAILING: [(u64, u64, OpenCause, u64, u64); 4] = [
+    (1, NEVER, OpenCause::Super(SuperRefused::Fault), 2, 0),
+    (2, NEVER, OpenCause::LogFault, 3, 0),
+    (NEVER, 0, OpenCause::BackingFault, 3, 1),
+    (4, NEVER, OpenCause::LogFault, 5, 1),
+];
+
+/// Why a cache over devices that fail isn't opened, and how many calls of each were made.
+fn refused(
+    alloc: Global,
+    log_call: u64,
+    backing_call: u64,
+) -> Result<Option<(OpenCause, u64, u64)>, Fail> {
+    let log = failing_log(alloc, log_call)?;
+    let backing = failing_backing(alloc, backing_call)?;
+    Ok(match Engine::open(alloc, log, backing) {
+        Ok(_) => None,
+        Err(stop) => Some((stop.cause, stop.log.calls(), stop.backing.calls())),
+    })
+}
+
+#[test]
+fn a_device_that_fails_is_refused(rt: HostRuntime) -> Result<(), Fail> {
+    for (log_call, backing_call, want, log_calls, backing_calls) in &FAILING {
+        let found = refused(rt.alloc(), *log_call, *backing_call)?;
+        assert!(rt; found == Some((*want, *log_calls, *backing_calls)));
+    }
+    Ok(())
+}
+
+/// Why a cache is refused over a log with a stray id in the third slot that fails from the next read on, and how many calls
+/// of the log were made.
+fn refused_before_it_fails(alloc: Global) -> Result<Option<(OpenCause, u64)>, Fail> {
+    let bytes = log_with(alloc, &[7, 6, 9, 8])?.into_bytes();
+    let log = MemoryDevice::of(alloc, bytes, stopping_at(alloc, 6))?;
+    let backing = SteadyDevice::of(former_bytes(alloc, SECTORS)?);
+    Ok(match Engine::open(alloc, log, backing) {
+        Ok(_) => None,
+        Err(stop) => Some((stop.cause, stop.log.calls())),
+    })
+}
+
+#[test]
+fn no_slot_is_read_behind_a_stray_one(rt: HostRuntime) -> Result<(), Fail> {
+    let found = refused_before_it_fails(rt.alloc())?;
+    assert!(rt; found == Some((OpenCause::Stray { slot: 2, id: 9 }, 6)));
+    Ok(())
+}

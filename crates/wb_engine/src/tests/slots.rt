@@ -1,0 +1,139 @@
+//! Where a sector is read from, and slots that are taken again.
+use super::{
+    LOG_SECTORS, NOWHERE, SECTORS, cache_of, cache_over, former_bytes, holds, log_of, put,
+    reads_as, reads_third, spots_of, turn, write, write_third,
+};
+use crate::{Engine, Turn};
+use std::alloc::Global;
+use std::test::Fail;
+use wb_device::SteadyDevice;
+use wb_geometry::{Entry, Geometry, Part, Spot};
+use wb_super::{format, read_super};
+
+type Cache = Engine<SteadyDevice, SteadyDevice>;
+
+/// Some sectors are in the log, some in memory, and the rest on the backing device.
+fn write_in_two_segments(alloc: Global, engine: &mut Cache) -> Result<(), Fail> {
+    let first = Part {
+        block: 0,
+        from: 0,
+        count: 3,
+    };
+    let second = Part {
+        block: 0,
+        from: 2,
+        count: 2,
+    };
+    let wrote = write(alloc, engine, &first, 0x01)?;
+    holds(wrote, "no room for the first")?;
+    holds(put(engine, Entry::Void { client: 0 }), "no room for a void")?;
+    holds(put(engine, Entry::Void { client: 0 }), "no room for a void")?;
+    holds(turn(engine) == Some(Ok(Turn::Logged)), "it isn't logged")?;
+    let wrote = write(alloc, engine, &second, 0x02)?;
+    holds(wrote, "no room for the second")
+}
+
+/// What is read of them, and where it stands.
+fn reads_from_three(engine: &mut Cache) -> Result<(), Fail> {
+    let in_log = Spot { id: 1, index: 0 };
+    let in_memory = Spot { id: 2, index: 0 };
+    let spots = [
+        in_log, in_log, in_memory, in_memory, NOWHERE, NOWHERE, NOWHERE, NOWHERE,
+    ];
+    holds(spots_of(engine, 0) == Some(spots), "other spots")?;
+    let fills = [0x01, 0x01, 0x02, 0x02, 104, 105, 106, 107];
+    holds(reads_as(engine, 0, &fills), "other bytes")
+}
+
+#[test]
+fn a_block_is_read_from_wherever_it_stands(rt: HostRuntime) -> Result<(), Fail> {
+    let alloc = rt.alloc();
+    let log = log_of(alloc, LOG_SECTORS, Some(0))?;
+    let mut engine = cache_over(alloc, log, SteadyDevice::of(former_bytes(alloc, SECTORS)?))?;
+    write_in_two_segments(alloc, &mut engine)?;
+    reads_from_three(&mut engine)
+}
+
+/// What turns do once all four slots are taken and a fifth segment waits.
+const TURNS: [Turn; 10] = [
+    Turn::Synced,
+    Turn::Backed,
+    Turn::Backed,
+    Turn::Backed,
+    Turn::Backed,
+    Turn::Recorded,
+    Turn::Logged,
+    Turn::Synced,
+    Turn::Backed,
+    Turn::Recorded,
+];
+
+/// Writes a segment of three places, all of one block.
+fn write_segment(alloc: Global, engine: &mut Cache, block: u8) -> Result<(), Fail> {
+    for _ in 0..3 {
+        let done = write_third(alloc, engine, block)?;
+        holds(done, "there was no room")?;
+    }
+    Ok(())
+}
+
+/// Four segments are logged, and a fifth waits.
+fn take_all_slots(alloc: Global, engine: &mut Cache) -> Result<(), Fail> {
+    for block in 0..4 {
+        write_segment(alloc, engine, block)?;
+        holds(turn(engine) == Some(Ok(Turn::Logged)), "it isn't logged")?;
+    }
+    write_segment(alloc, engine, 4)?;
+    holds(!engine.can_log(), "a slot is taken too early")
+}
+
+/// Turns until there is nothing to do, behind each of which all blocks are read.
+fn turn_to_the_end(engine: &mut Cache) -> Result<(), Fail> {
+    for want in &TURNS {
+        holds(turn(engine) == Some(Ok(*want)), "a turn did something else")?;
+        let all = (0..5).all(|block| reads_third(engine, block));
+        holds(all, "a block is read as something else")?;
+    }
+    holds(turn(engine) == Some(Ok(Turn::Idle)), "it isn't idle")
+}
+
+#[test]
+fn a_slot_is_taken_again_once_it_is_recorded(rt: HostRuntime) -> Result<(), Fail> {
+    let alloc = rt.alloc();
+    let mut engine = cache_of(alloc, SteadyDevice::of(former_bytes(alloc, SECTORS)?))?;
+    take_all_slots(alloc, &mut engine)?;
+    turn_to_the_end(&mut engine)
+}
+
+/// Three segments of a place each over two slots: the third waits for the record to name the first.
+fn wrap(alloc: Global, engine: &mut Cache) -> Result<(), Fail> {
+    for block in 0..2 {
+        let done = write_third(alloc, engine, block)?;
+        holds(done, "there was no room")?;
+        holds(turn(engine) == Some(Ok(Turn::Logged)), "it isn't logged")?;
+    }
+    let done = write_third(alloc, engine, 2)?;
+    holds(done, "there was no room for the third")?;
+    for want in [Turn::Synced, Turn::Backed, Turn::Backed, Turn::Recorded] {
+        holds(!engine.can_log() && engine.recorded() == 0, "too early")?;
+        holds(turn(engine) == Some(Ok(want)), "a turn did something else")?;
+    }
+    holds(engine.can_log() && engine.recorded() == 2, "not yet")?;
+    holds(turn(engine) == Some(Ok(Turn::Logged)), "it isn't logged")?;
+    holds(
+        reads_third(engine, 0),
+        "the first is read as something else",
+    )
+}
+
+#[test]
+fn three_segments_share_two_slots(rt: HostRuntime) -> Result<(), Fail> {
+    let alloc = rt.alloc();
+    let mut log = SteadyDevice::of(vec![in alloc; 0; 2080 * 512]?);
+    format(&mut log, &Geometry::new(4, 2, 2, 64)?)?;
+    let mut engine = cache_over(alloc, log, SteadyDevice::of(former_bytes(alloc, SECTORS)?))?;
+    wrap(alloc, &mut engine)?;
+    let mut closed = engine.close();
+    assert!(rt; read_super(&mut closed.log).is_ok_and(|found| found.recorded == 3));
+    Ok(())
+}
