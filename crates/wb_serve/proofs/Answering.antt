@@ -1,5 +1,5 @@
 -- A client's requests, answered one after another over the engine.
-use Rattle.std.proofs.Common.{ℕ, ◌≡◌, ◌+◌, ◌-◌, ◌*◌, ◌/◌, ◌<◌, ◌≤◌, ◌^◌, Bool, true, false, ◌||◌, ◌==◌, List, [], ◌∷◌, ◌++◌, length, get_or, take, replicate, Option, Some, None, IfSome, Result, Ok, Err, ◌⊎◌, inl, inr, refl, ap, sym, ◌∙◌, subst, zero-add, arith}
+use Rattle.std.proofs.Common.{ℕ, ◌≡◌, ◌+◌, ◌-◌, ◌*◌, ◌/◌, ◌<◌, ◌≤◌, ◌^◌, Bool, true, false, ◌||◌, ◌==◌, List, [], ◌∷◌, ◌++◌, length, get_or, take, replicate, Option, Some, None, IfSome, Result, Ok, Err, IfOk, IfErr, IsSome, ◌⊎◌, inl, inr, refl, ap, sym, ◌∙◌, subst, zero-add, add-zero, arith}
 use Rattle.std.specs.List.{Any, enumerate_from, zip}
 use Rattle.std.proofs.lemmas.List.{append-nil, length-append, take_all, take_more}
 use Rattle.std.proofs.lemmas.Option.{IfSome_then}
@@ -24,9 +24,16 @@ use Rattle.wb_script.specs.declared.transcript.Stop.{Stop}
 use Rattle.wb_script.specs.declared.transcript.Stop.TheVariants.{Whole, Down, Ids}
 use Rattle.wb_engine.specs.Content.{EngineContent}
 use Rattle.wb_engine.specs.Standing.{Standing, Told}
-use Rattle.wb_serve.specs.Session.{HasStop}
-use Rattle.wb_serve.specs.Playing.{HasMoved, HasCome, StandsOver, IsStoppedBy, IsDownBy, AreSpent, TakesPlace, wrote, IsAnswered, IsPlayed, is_stopped_line}
-use Rattle.wb_serve.proofs.Moves.{a_base, told_base, come_more}
+use Rattle.wb_serve.specs.declared.playing.Played.{Played}
+use Rattle.wb_serve.specs.Session.{HasStop, told_with, base_of}
+use Rattle.wb_serve.specs.Playing.{HasMoved, HasCome, StandsOver, IsStoppedBy, IsStoppedDown, IsDownBy, AreSpent, TakesPlace, wrote, IsAnswered, IsPlayed, IsPlayedInPart, is_stopped_line}
+use Rattle.wb_serve.proofs.Moves.{down_stays, told_base, come_more}
+use Rattle.wb_serve.proofs.Rooms.{all_full}
+
+-- at an `Err` of any cause
+pub at_err : {T E P : Type 0} (r : Result T E) → P → IfErr r (λ none. P)
+at_err (Ok x) holds = tt
+at_err (Err e) holds = holds
 
 -- ---- a write
 
@@ -37,10 +44,10 @@ fewer Ids es stopped some = some
 
 module _ {L B : Type 0} where
   -- It took the next place, or none.
-  pub answered_write : {old new : State} {e f : EngineContent L B} (client sector : ℕ) (pattern : List ℕ) (taken : Result ℕ Stop) → length pattern ≡ 1
-      → TakesPlace old new e f (entry_of client (part_in sector 1 (sector / 8)) (replicate 512 (get_or pattern 0 0))) taken
-      → IsAnswered client (Write sector 1 pattern false) old new e f (wrote taken)
-  answered_write {old} {new} {e} {f} client sector pattern (Ok place) one (next, left, moved) =
+  pub answered_write : {log new_log backing new_backing : State} {e f : EngineContent L B} (client sector : ℕ) (pattern : List ℕ) (taken : Result ℕ Stop) → length pattern ≡ 1
+      → TakesPlace log new_log backing new_backing e f (entry_of client (part_in sector 1 (sector / 8)) (replicate 512 (get_or pattern 0 0))) taken
+      → IsAnswered client (Write sector 1 pattern false) log new_log backing new_backing e f (wrote taken)
+  answered_write {log} {new_log} {backing} {new_backing} {e} {f} client sector pattern (Ok place) one (next, left, moved, quiet) =
       let entry : HistoryEntry = entry_of client (part_in sector 1 (sector / 8)) (replicate 512 (get_or pattern 0 0)) in
       let asks : asked client (Write sector 1 pattern false) ≡ entry ∷ [] = asked-one client sector 1 pattern false refl one in
       record {
@@ -52,12 +59,11 @@ module _ {L B : Type 0} where
         own = All-cons (λ x. client_of x ≡ client) entry [] refl (All-nil (λ x. client_of x ≡ client));
         answers = λ content h over seen le. ((omega (arith, le, next), tt), sym (ap length asks));
         sees = λ seen le. omega (arith, next);
-        not_log = refl;
         stopped_down = λ device is. absurd (cc);
         stopped_ids = λ is. absurd (cc);
         none_left = λ spent. absurd (left spent);
       }
-  answered_write {old} {new} {e} {f} client sector pattern (Err stop) one (stopped, moved) =
+  answered_write {log} {new_log} {backing} {new_backing} {e} {f} client sector pattern (Err stop) one (stopped, moved, quiet) =
       let asks = asked-one client sector 1 pattern false refl one in
       record {
         entries = [];
@@ -67,7 +73,6 @@ module _ {L B : Type 0} where
         answers = λ content h over seen le.
             (tt, fewer stop (asked client (Write sector 1 pattern false)) (λ is. subst (IsStoppedBy f) is stopped) (let size = ap length asks in omega (arith, size)));
         sees = λ seen le. omega (arith, le);
-        not_log = refl;
         stopped_down = λ device is. subst (IsStoppedBy f) is stopped;
         stopped_ids = λ is. subst (IsStoppedBy f) is stopped;
         none_left = λ spent. refl;
@@ -76,10 +81,11 @@ module _ {L B : Type 0} where
   -- ---- a read
 
   -- It shows what the history made of the image.
-  pub answered_read : {old new : State} {e f : EngineContent L B} (client sector point : ℕ) (shown : List ℕ) → HasMoved old new e f [] 0 → point ≡ e.absorbed → length shown ≡ 512
-      → ((base image : Image) (history : List HistoryEntry) → Told old image → Standing (Told old) e base history → shown ≡ bytes_at (after base history) sector 1)
-      → IsAnswered client (Read sector 1) old new e f (Got point shown)
-  answered_read {old} {new} {e} {f} client sector point shown moved here size shows = record {
+  pub answered_read : {log new_log backing new_backing : State} {e f : EngineContent L B} (client sector point : ℕ) (shown : List ℕ) → HasMoved log new_log backing new_backing e f [] 0 0
+      → point ≡ e.absorbed → length shown ≡ 512
+      → ((base image : Image) (history : List HistoryEntry) → Told backing image → Standing e log backing base history → shown ≡ bytes_at (after base history) sector 1)
+      → IsAnswered client (Read sector 1) log new_log backing new_backing e f (Got point shown)
+  answered_read {log} {new_log} {backing} {new_backing} {e} {f} client sector point shown moved here size shows = record {
     entries = [];
     moved = moved;
     once = refl;
@@ -94,24 +100,22 @@ module _ {L B : Type 0} where
           (sym (ap (λ (es : List HistoryEntry). take point es) (append-nil h) ∙ take_all point h (omega (arith, here, over.places))))),
     );
     sees = λ seen le. omega (arith, here);
-    not_log = refl;
     stopped_down = λ device is. absurd is;
     stopped_ids = λ is. absurd is;
     none_left = λ spent. refl;
   }
 
-  -- The backing device failed.
-  pub answered_failed : {old new : State} {e f : EngineContent L B} (client sector : ℕ) (device : Which) → device ≡ Backing → HasMoved old new e f [] 1
-      → IsAnswered client (Read sector 1) old new e f (Failed device)
-  answered_failed {old} {new} {e} {f} client sector Log is moved = absurd (cc)
-  answered_failed {old} {new} {e} {f} client sector Backing is moved = record {
+  -- A device failed.
+  pub answered_failed : {log new_log backing new_backing : State} {e f : EngineContent L B} (client sector : ℕ) (device : Which)
+      → HasMoved log new_log backing new_backing e f [] (is_failure Log (Failed device)) (is_failure Backing (Failed device))
+      → IsAnswered client (Read sector 1) log new_log backing new_backing e f (Failed device)
+  answered_failed {log} {new_log} {backing} {new_backing} {e} {f} client sector device moved = record {
     entries = [];
     moved = moved;
     once = refl;
     own = All-nil (λ x. client_of x ≡ client);
     answers = λ content h over seen le. tt;
     sees = λ seen le. omega (arith, le);
-    not_log = refl;
     stopped_down = λ device is. absurd is;
     stopped_ids = λ is. absurd is;
     none_left = λ spent. refl;
@@ -119,19 +123,25 @@ module _ {L B : Type 0} where
 
   -- ---- requests so far
 
-  over_told : {opened now : State} {start e : EngineContent L B} {h : List HistoryEntry} {m : ℕ} → HasCome opened now start e h m → (content : Option Image) → opened.content ≡ content
-      → IfSome content (λ base. ((image : Image) × Told now image) × Standing (Told now) e base h)
-  over_told come None is = tt
-  over_told {opened} come (Some x) is =
-      let to = come.changed.told x is in
-      ((to.0, to.1), come.stands x (told_base opened x is))
+  over_told : {opened_log log opened_backing backing : State} {start e : EngineContent L B} {h : List HistoryEntry} {m n : ℕ} → HasCome opened_log log opened_backing backing start e h m n
+      → (first second : Option Image) → opened_log.content ≡ first → opened_backing.content ≡ second
+      → IfSome (told_with first second) (λ base. ((image : Image) × Told backing image) × Standing e log backing base h)
+  over_told come None second tells is = tt
+  over_told come (Some x) None tells is = tt
+  over_told {opened_log} {log} {opened_backing} {backing} come (Some x) (Some y) tells is =
+      let some : IsSome opened_log.content = subst (λ (o : Option Image). IsSome o) (sym tells) refl in
+      let to = (come.changed some).told y is in
+      ((to.0, to.1), come.stands y (told_base opened_backing y is) some)
 
-  pub stands_over : {opened now : State} {start e : EngineContent L B} {h : List HistoryEntry} {m : ℕ} → HasCome opened now start e h m → StandsOver opened.content now e h
-  stands_over {opened} come =
-      let base = a_base opened in
-      record { places = (come.stands base.0 base.1).places; told = over_told come opened.content refl }
+  pub stands_over : {opened_log log opened_backing backing : State} {start e : EngineContent L B} {h : List HistoryEntry} {m n : ℕ} → HasCome opened_log log opened_backing backing start e h m n
+      → StandsOver (base_of opened_log opened_backing) log backing e h
+  stands_over {opened_log} {log} {opened_backing} come =
+      record { places = come.places; told = over_told come opened_log.content opened_backing.content refl refl }
 
 -- ---- lines of a kind
+
+none_of : {P : Line → Type 0} → Any P [] → ⊥
+none_of (k, x, lt, is, holds) = omega (arith, lt)
 
 any-before : (P : Line → Type 0) (lines : List Line) (line : Line) → Any P lines → Any P (lines ++ line ∷ [])
 any-before P lines line (k, x, lt, is, holds) =
@@ -191,24 +201,25 @@ line_stopped (Wrote places stop) is = subst (λ (s : Stop). is_stopped_line (Wro
 line_stopped (Got point shown) is = absurd is
 line_stopped (Failed device) is = absurd is
 
-neither : (a b : Bool) → a ≡ false → b ≡ false → (a || b) ≡ false
-neither true b first second = absurd (cc)
-neither false b first second = second
-
 -- ---- one more request
 
 module _ {L B : Type 0} where
-  still_down_by : {old new : State} {e f : EngineContent L B} {es : List HistoryEntry} {n : ℕ} (device : Which) → HasMoved old new e f es n → IsDownBy e device → IsDownBy f device
-  still_down_by {old} {new} {e} {f} {es} device moved down = record {
-    down = subst (λ (o : Option Which). IfSome o (λ which. f.down ≡ Some which)) down.down moved.stays_down;
+  -- where there is no room all segments in memory are full
+  down_by_stop : {e : EngineContent L B} (device : Which) → IsStoppedDown e device → IsDownBy e device
+  down_by_stop {e} device stopped = record { down = stopped.down; full = all_full e.geometry e.numbers e.absorbed stopped.full }
+
+  still_down_by : {log new_log backing new_backing : State} {e f : EngineContent L B} {es : List HistoryEntry} {m n : ℕ} (device : Which) → HasMoved log new_log backing new_backing e f es m n
+      → IsDownBy e device → IsDownBy f device
+  still_down_by {log} {new_log} {backing} {new_backing} {e} {f} {es} device moved down = record {
+    down = down_stays device moved.stays_down down.down;
     full =
         let longer : e.absorbed ≤ f.absorbed = omega (arith, moved.absorbed) in
         let same : places f.geometry * f.geometry.ram ≡ places e.geometry * e.geometry.ram = ap (λ (g : Geometry). places g * g.ram) moved.kept.geometry in
         omega (arith, same, longer, down.full);
   }
 
-  still_spent : {old new : State} {e f : EngineContent L B} {es : List HistoryEntry} {n : ℕ} → HasMoved old new e f es n → es ≡ [] → AreSpent e → AreSpent f
-  still_spent {old} {new} {e} {f} {es} moved none spent =
+  still_spent : {log new_log backing new_backing : State} {e f : EngineContent L B} {es : List HistoryEntry} {m n : ℕ} → HasMoved log new_log backing new_backing e f es m n → es ≡ [] → AreSpent e → AreSpent f
+  still_spent {log} {new_log} {backing} {new_backing} {e} {f} {es} moved none spent =
       let size : length es ≡ 0 = ap length none in
       let still : f.absorbed ≡ e.absorbed = omega (arith, size, moved.absorbed) in
       let P : Geometry × ℕ → Type 0 = λ t. e.absorbed ≡ places t.0 * (2 ^ 48 - t.1) in
@@ -216,39 +227,40 @@ module _ {L B : Type 0} where
       let same : (e.geometry, e.numbers.first) ≡ (f.geometry, f.numbers.first) = cc (moved.kept.geometry, moved.kept.first) in
       still ∙ subst P same was
 
-  pub play_push : {opened old new : State} {start e f : EngineContent L B} {requests : List Request} {lines : List Line} {h : List HistoryEntry} {ids log_failed backing_failed : Bool} (client : ℕ) (request : Request) (line : Line)
-      → IsPlayed client requests opened old start e lines h ids log_failed backing_failed → (answered : IsAnswered client request old new e f line)
-      → IsPlayed client (requests ++ request ∷ []) opened new start f (lines ++ line ∷ []) (h ++ answered.entries)
+  pub play_push : {opened_log log new_log opened_backing backing new_backing : State} {start e f : EngineContent L B} {requests : List Request} {lines : List Line} {h : List HistoryEntry} {ids log_failed backing_failed : Bool} (client : ℕ) (request : Request) (line : Line)
+      → IsPlayed client requests opened_log log opened_backing backing start e lines h ids log_failed backing_failed → (answered : IsAnswered client request log new_log backing new_backing e f line)
+      → IsPlayed client (requests ++ request ∷ []) opened_log new_log opened_backing new_backing start f (lines ++ line ∷ []) (h ++ answered.entries)
       (ids || is_stopped_line line) (log_failed || (is_failure Log line == 1)) (backing_failed || (is_failure Backing line == 1))
-  play_push {opened} {old} {new} {start} {e} {f} {requests} {lines} {h} {ids} {log_failed} {backing_failed} client request line p answered =
+  play_push {opened_log} {log} {new_log} {opened_backing} {backing} {new_backing} {start} {e} {f} {requests} {lines} {h} {ids} {log_failed} {backing_failed} client request line p answered =
       let es : List HistoryEntry = answered.entries in
       let over = stands_over p.come in
-      let same_length : length lines ≡ length requests = length-answers opened.content h client nothing_seen requests lines p.answers in
+      let content : Option Image = base_of opened_log opened_backing in
+      let same_length : length lines ≡ length requests = length-answers content h client nothing_seen requests lines p.answers in
       let seen : Seen = seen_after_all nothing_seen requests lines in
       let low : seen.number ≤ e.absorbed = omega (arith, p.sees, over.places) in
-      let m : ℕ = failures Backing lines in
-      let n : ℕ = is_failure Backing line in
-      let count : failures Backing (lines ++ line ∷ []) ≡ m + n = failures_push Backing lines line in
+      let count : (which : Which) → failures which (lines ++ line ∷ []) ≡ failures which lines + is_failure which line = λ which. failures_push which lines line in
       record {
-        come = subst (λ (k : ℕ). HasCome opened new start f (h ++ es) k) (sym count) (come_more p.come answered.moved);
+        come =
+            subst (λ (k : ℕ). HasCome opened_log new_log opened_backing new_backing start f (h ++ es) k (failures Backing (lines ++ line ∷ []))) (sym (count Log))
+            (subst (λ (k : ℕ). HasCome opened_log new_log opened_backing new_backing start f (h ++ es) (failures Log lines + is_failure Log line) k) (sym (count Backing)) (come_more p.come answered.moved));
         once =
             printed_push client requests lines request line same_length
             ∙ ap (λ (ps : List (ℕ × HistoryEntry)). ps ++ printed_line client request line) p.once
             ∙ ap (λ (ps : List (ℕ × HistoryEntry)). enumerate_from 0 h ++ ps) (answered.once ∙ ap (λ (k : ℕ). enumerate_from k es) (sym over.places ∙ sym (zero-add (length h))))
             ∙ sym (enumerate_from-append 0 h es);
         own = All-append (λ entry. client_of entry ≡ client) h es p.own answered.own;
-        answers = AnswersAll_push opened.content (h ++ es) client nothing_seen requests lines request line
-            (AnswersAll-longer opened.content h es client nothing_seen requests lines p.answers)
-            (answered.answers opened.content h over seen low);
+        answers = AnswersAll_push content (h ++ es) client nothing_seen requests lines request line
+            (AnswersAll-longer content h es client nothing_seen requests lines p.answers)
+            (answered.answers content h over seen low);
         sees = subst (λ (s : Seen). s.number ≤ length (h ++ es)) (sym (seen_push nothing_seen requests lines request line same_length))
             (let sees = answered.sees seen low in omega (arith, sees, over.places, length-append h es));
-        not_log = failures_push Log lines line ∙ ap (λ (k : ℕ). k + is_failure Log line) p.not_log ∙ zero-add (is_failure Log line) ∙ answered.not_log;
-        log_fine = neither log_failed (is_failure Log line == 1) p.log_fine (ap (λ (k : ℕ). k == 1) answered.not_log);
-        fails = λ failed. subst (λ (k : ℕ). 1 ≤ k) (sym count) (count_rose backing_failed m n p.fails failed);
-        fine = λ fine. count ∙ count_kept backing_failed m n (failure_few Backing line) p.fine fine;
+        log_fails = λ failed. subst (λ (k : ℕ). 1 ≤ k) (sym (count Log)) (count_rose log_failed (failures Log lines) (is_failure Log line) p.log_fails failed);
+        log_fine = λ fine. count Log ∙ count_kept log_failed (failures Log lines) (is_failure Log line) (failure_few Log line) p.log_fine fine;
+        backing_fails = λ failed. subst (λ (k : ℕ). 1 ≤ k) (sym (count Backing)) (count_rose backing_failed (failures Backing lines) (is_failure Backing line) p.backing_fails failed);
+        backing_fine = λ fine. count Backing ∙ count_kept backing_failed (failures Backing lines) (is_failure Backing line) (failure_few Backing line) p.backing_fine fine;
         stopped_down = λ device some. elim (any-push_cases (HasStop (Down device)) lines line some) [
           | inl before ↦ still_down_by device answered.moved (p.stopped_down device before)
-          | inr last ↦ answered.stopped_down device last
+          | inr last ↦ down_by_stop device (answered.stopped_down device last)
         ];
         stopped_ids = λ some. elim (any-push_cases (HasStop Ids) lines line some) [
           | inl before ↦
@@ -260,12 +272,70 @@ module _ {L B : Type 0} where
       }
 
   -- the same in a loop
-  pub play_more : {opened old new : State} {start e f : EngineContent L B} {lines now_lines : List Line} {h : List HistoryEntry} {ids log_failed backing_failed : Bool} (client : ℕ) (requests : List Request) (i : ℕ) (request : Request) (line : Line)
-      → i < length requests → request ≡ get_or requests i request → IsPlayed client (take i requests) opened old start e lines h ids log_failed backing_failed
-      → (answered : IsAnswered client request old new e f line) → now_lines ≡ lines ++ line ∷ []
-      → IsPlayed client (take (i + 1) requests) opened new start f now_lines (h ++ answered.entries)
+  pub play_more : {opened_log log new_log opened_backing backing new_backing : State} {start e f : EngineContent L B} {lines now_lines : List Line} {h : List HistoryEntry} {ids log_failed backing_failed : Bool} (client : ℕ) (requests : List Request) (i : ℕ) (request : Request) (line : Line)
+      → i < length requests → request ≡ get_or requests i request → IsPlayed client (take i requests) opened_log log opened_backing backing start e lines h ids log_failed backing_failed
+      → (answered : IsAnswered client request log new_log backing new_backing e f line) → now_lines ≡ lines ++ line ∷ []
+      → IsPlayed client (take (i + 1) requests) opened_log new_log opened_backing new_backing start f now_lines (h ++ answered.entries)
       (ids || is_stopped_line line) (log_failed || (is_failure Log line == 1)) (backing_failed || (is_failure Backing line == 1))
-  play_more {opened} {old} {new} {start} {e} {f} {lines} {now_lines} {h} client requests i request line lt is played answered grown =
+  play_more {opened_log} {log} {new_log} {opened_backing} {backing} {new_backing} {start} {e} {f} {lines} {now_lines} {h} client requests i request line lt is played answered grown =
       let next : take (i + 1) requests ≡ take i requests ++ request ∷ [] = take_more requests i request lt ∙ ap (λ (r : Request). take i requests ++ r ∷ []) (sym is) in
       let full = play_push client request line played answered in
       rw (next, grown) full
+
+  -- where the engine went on without an answer
+  pub play_on : {opened_log log new_log opened_backing backing new_backing : State} {start e f : EngineContent L B} {requests : List Request} {lines : List Line} {h : List HistoryEntry} {ids log_failed backing_failed : Bool} (client : ℕ)
+      → IsPlayed client requests opened_log log opened_backing backing start e lines h ids log_failed backing_failed → HasMoved log new_log backing new_backing e f [] 0 0
+      → IsPlayed client requests opened_log new_log opened_backing new_backing start f lines h ids log_failed backing_failed
+  play_on {opened_log} {log} {new_log} {opened_backing} {backing} {new_backing} {start} {e} {f} {requests} {lines} {h} client p moved = record {
+    come =
+        let same : (h ++ [], failures Log lines + 0, failures Backing lines + 0) ≡ (h, failures Log lines, failures Backing lines) = cc (append-nil h, add-zero (failures Log lines), add-zero (failures Backing lines)) in
+        let P : List HistoryEntry × ℕ × ℕ → Type 0 = λ t. HasCome opened_log new_log opened_backing new_backing start f t.0 t.1 t.2 in
+        let more : P (h ++ [], failures Log lines + 0, failures Backing lines + 0) = come_more p.come moved in
+        subst P same more;
+    once = p.once;
+    own = p.own;
+    answers = p.answers;
+    sees = p.sees;
+    log_fails = p.log_fails;
+    log_fine = p.log_fine;
+    backing_fails = p.backing_fails;
+    backing_fine = p.backing_fine;
+    stopped_down = λ device some. still_down_by device moved (p.stopped_down device some);
+    stopped_ids = λ some. let spent = p.stopped_ids some in (spent.0, still_spent moved refl spent.1);
+    ids_told = p.ids_told;
+  }
+
+  -- none was played
+  pub play_none : {log backing : State} {e : EngineContent L B} (client : ℕ) → HasCome log log backing backing e e [] 0 0 → IsPlayed client [] log log backing backing e e [] [] false false false
+  play_none {log} {backing} {e} client come = record {
+    come = come;
+    once = refl;
+    own = All-nil (λ entry. client_of entry ≡ client);
+    answers = tt;
+    sees = omega arith;
+    log_fails = λ is. absurd (cc);
+    log_fine = λ is. refl;
+    backing_fails = λ is. absurd (cc);
+    backing_fine = λ is. refl;
+    stopped_down = λ device some. absurd (none_of some);
+    stopped_ids = λ some. absurd (none_of some);
+    ids_told = λ is. absurd (cc);
+  }
+
+  -- all of them, or some
+  pub played_in_part : {E : Type 0} {opened_log log opened_backing backing : State} {start e : EngineContent L B} (client : ℕ) (requests : List Request) (result : Result Played E)
+      → IfOk result (λ played. (history : List HistoryEntry) × IsPlayed client requests opened_log log opened_backing backing start e played.transcript history played.ids played.log_failed played.backing_failed)
+      → IfErr result (λ none. IsPlayedInPart client requests opened_log log opened_backing backing start e)
+      → IsPlayedInPart client requests opened_log log opened_backing backing start e
+  played_in_part {E} {opened_log} {log} {opened_backing} {backing} {start} {e} client requests (Ok played) all some = record {
+    count = length requests;
+    lines = played.transcript;
+    history = all.0;
+    ids = played.ids;
+    log_failed = played.log_failed;
+    backing_failed = played.backing_failed;
+    played =
+        subst (λ (asked : List Request). IsPlayed client asked opened_log log opened_backing backing start e played.transcript all.0 played.ids played.log_failed played.backing_failed)
+        (sym (take_all (length requests) requests (omega arith))) all.1;
+  }
+  played_in_part client requests (Err none) all some = some

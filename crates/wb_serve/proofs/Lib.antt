@@ -2,4 +2,9 @@ pub mod Moves
 pub mod Rooms
 pub mod Entries
 pub mod Answering
+pub mod Bases
+pub mod Crashes
+pub mod Faults
+pub mod Openings
+pub mod Closed
 pub mod Servings

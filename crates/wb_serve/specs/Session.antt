@@ -1,20 +1,25 @@
 -- What serving a script leaves.
-use Rattle.std.specs.Prelude.{ℕ, ◌≡◌, ◌⊎◌, ◌+◌, ◌-◌, ◌*◌, ◌^◌, ◌<◌, ◌≤◌, Bool, true, false, List, min, Any, Result, Ok, Err}
+use Rattle.std.specs.Prelude.{ℕ, ◌≡◌, ◌⊎◌, ◌+◌, ◌-◌, ◌*◌, ◌/◌, ◌^◌, ◌<◌, ◌≤◌, Bool, true, false, List, [], length, take, slice_index_or, min, Any, Option, Some, None, IsSome, Result, Ok, Err}
+use Rattle.wb_geometry.specs.Image.{Image}
 use Rattle.wb_geometry.specs.History.{HistoryEntry, after, PutsPartly}
 use Rattle.wb_geometry.specs.Layout.{places}
-use Rattle.wb_geometry.specs.Device.{State, CountsFaultsWhere, ContentPasses, IsUncalled, NothingPending}
+use Rattle.wb_geometry.specs.Line.{line_of}
+use Rattle.wb_geometry.specs.Device.{State, CountsFaultsWhere, ContentPasses, OnlyRead, IsUncalled, NothingPending}
 use Rattle.wb_geometry.specs.declared.which.Which.{Which}
 use Rattle.wb_geometry.specs.declared.which.Which.TheVariants.{Log, Backing}
 use Rattle.wb_script.specs.Content.{ScriptContent}
 use Rattle.wb_script.specs.Transcripts.{IsHistory, AreLegal, all_failures}
+use Rattle.wb_script.specs.declared.request.Request.{Request}
 use Rattle.wb_script.specs.declared.transcript.Line.{Line}
 use Rattle.wb_script.specs.declared.transcript.Line.TheVariants.{Wrote, Got, Failed}
 use Rattle.wb_script.specs.declared.transcript.Stop.{Stop}
 use Rattle.wb_script.specs.declared.transcript.Stop.TheVariants.{Down, Ids}
-use Rattle.wb_super.specs.Found.{IsSuper}
+use Rattle.wb_super.specs.Superblock.{record_of}
 use Rattle.wb_super.specs.declared.reading.Super.{Super}
 use Rattle.wb_super.specs.declared.reading.SuperRefused.TheVariants as refused
-use Rattle.wb_engine.specs.Opening.{RefusesOpening, most_recorded}
+use Rattle.wb_crash.specs.Chain.{IsChain}
+use Rattle.wb_crash.specs.Crash.{CrashNow}
+use Rattle.wb_engine.specs.Opening.{RefusesOpening, MayOpen, HasNoStray, IsEarly, IsOnlySynced}
 use Rattle.wb_engine.specs.declared.opening.OpenCause.TheVariants as opening
 use Rattle.wb_serve.specs.declared.serving.Session.{Session}
 use Rattle.wb_serve.specs.declared.serving.ServeStop.{ServeStop}
@@ -34,17 +39,30 @@ HasStop stop (Failed device) = ⊥
 abbrev pub IsStopped : Stop → List (List Line) → Type 0
 IsStopped stop transcripts = Any (Any (HasStop stop)) transcripts
 
--- A session of this script, over a cache with this superblock. The history is that of the transcripts, and the base image is
--- the backing device's content before it. The flags say that a write was stopped for want of an id, and that a device failed.
+-- The base image of a session: the backing device's content at the opening, where both devices tell theirs, since a read may
+-- come from either.
+abbrev pub told_with : Option Image → Option Image → Option Image
+told_with None base = None
+told_with (Some x) base = base
+
+abbrev pub base_of : (log backing : State) → Option Image
+base_of log backing = told_with log.content backing.content
+
+-- the id of the last segment of a session with so many places
+abbrev pub last_segment : Super → (taken : ℕ) → ℕ
+last_segment found taken = found.recorded + (taken + places found.geometry - 1) / places found.geometry
+
+-- A session of this script, over a cache with this superblock. The history is that of the transcripts. The flags say that a
+-- write was stopped for want of an id, and that a device failed. What is said of contents holds where the log tells its own.
 pub record IsSession (found : Super) (script : ScriptContent) (log_before log_after backing_before backing_after : State)
     (transcripts : List (List Line)) (taken : ℕ) (ids log_failed backing_failed : Bool) : Type 0 where
-  pub super : IsSuper log_before found
-  pub ids_left : found.recorded ≤ most_recorded found.geometry.slots
+  pub opened : MayOpen log_before backing_before.sectors found
+  pub no_stray : HasNoStray found.geometry found.recorded log_before
   pub fits : script.sectors ≤ found.geometry.backing_sectors
   pub history : List HistoryEntry
   pub printed : IsHistory script transcripts taken history
   pub only : (other : List HistoryEntry) → IsHistory script transcripts taken other → other ≡ history
-  pub legal : AreLegal backing_before.content history 0 script.requests transcripts
+  pub legal : AreLegal (base_of log_before backing_before) history 0 script.requests transcripts
   -- no more lines say that a read of a device failed than it failed
   pub log_failures : RoseBy (all_failures Log transcripts) log_before.faults log_after.faults
   pub backing_failures : RoseBy (all_failures Backing transcripts) backing_before.faults backing_after.faults
@@ -56,24 +74,58 @@ pub record IsSession (found : Super) (script : ScriptContent) (log_before log_af
   pub ids_told : ids ≡ true → IsStopped Ids transcripts
   pub ids_spent : IsStopped Ids transcripts → (ids ≡ true) × (taken ≡ places found.geometry * (2 ^ 48 - found.recorded))
   -- no sector changes but to what an entry of the history writes
-  pub changed : ContentPasses (PutsPartly history) backing_before backing_after
-  -- where neither device failed the whole history is put, and a crash leaves it
-  pub content : log_failed ≡ false → backing_failed ≡ false
+  pub changed : IsSome log_before.content → ContentPasses (PutsPartly history) backing_before backing_after
+  -- recovery makes of whatever a crash now leaves the image after exactly the first segments, up to some segment
+  pub crash : (base : Image) → base_of log_before backing_before ≡ Some base
+      → CrashNow found.geometry (line_of (places found.geometry) found.recorded base history) found.recorded (last_segment found taken) log_after backing_after
+  -- where neither device failed the whole history is put and recorded, recovery finds no segment, and a crash leaves it so
+  pub content : log_failed ≡ false → backing_failed ≡ false → IsSome log_before.content
       → ContentPasses (λ base image. image ≡ after base history) backing_before backing_after
-  pub durable : log_failed ≡ false → backing_failed ≡ false → NothingPending backing_after
+  pub empty : log_failed ≡ false → backing_failed ≡ false → (x : Image) → IsSome log_before.content → log_after.content ≡ Some x
+      → IsChain found.geometry x [] × (record_of x ≡ last_segment found taken)
+  pub durable : log_failed ≡ false → backing_failed ≡ false → NothingPending log_after × NothingPending backing_after
   pub log_cause : CountsFaultsWhere (log_failed ≡ true) log_before.faults log_after.faults
   pub backing_cause : CountsFaultsWhere (backing_failed ≡ true) backing_before.faults backing_after.faults
 
--- Why no session was served, and that the backing device wasn't called then. Want of memory, which may come late, has no
--- cause.
-abbrev pub IsUnserved : (sectors : ℕ) (log backing_before backing_after : State) → ServeStop → Type 0
-IsUnserved sectors log backing_before backing_after (stop.Open cause) =
-    (cause ≡ opening.Memory) ⊎ (RefusesOpening log backing_before.sectors cause × IsUncalled backing_before backing_after)
-IsUnserved sectors log backing_before backing_after (stop.Changed parsed found) =
-    (parsed ≡ sectors) × (found < parsed) × ((super : Super) × IsSuper log super × (super.recorded ≤ most_recorded super.geometry.slots) × (found ≡ super.geometry.backing_sectors))
-    × IsUncalled backing_before backing_after
+-- Both devices were synced at most, and the backing device not called where the cause comes before that.
+pub record IsUntouched (early : Type 0) (log_before log_after backing_before backing_after : State) : Type 0 where
+  pub log : IsOnlySynced log_before log_after
+  pub backing : IsOnlySynced backing_before backing_after
+  pub early_log : early → OnlyRead log_before log_after
+  pub early_backing : early → IsUncalled backing_before backing_after
 
--- the answer says that the log failed
+-- these are the first requests of each client
+pub record IsCutOf (whole part : List (List Request)) : Type 0 where
+  pub clients : length part ≡ length whole
+  pub each : (client : ℕ) → client < length whole → (count : ℕ) × (slice_index_or part client [] ≡ take count (slice_index_or whole client []))
+
+-- A session that ended for want of memory. Nothing is told of it, but the devices are as a session of the first requests of
+-- each client leaves them.
+pub record IsCutShort (found : Super) (script : ScriptContent) (log_before log_after backing_before backing_after : State) : Type 0 where
+  pub answered : List (List Request)
+  pub cut : IsCutOf script.requests answered
+  pub transcripts : List (List Line)
+  pub taken : ℕ
+  pub ids : Bool
+  pub log_failed : Bool
+  pub backing_failed : Bool
+  pub session : IsSession found (record script { requests = answered }) log_before log_after backing_before backing_after transcripts taken ids log_failed backing_failed
+
+-- Why no session was served, and what was done then. Want of memory has no cause, and may come behind some answers.
+abbrev pub IsUnserved : (script : ScriptContent) (log_before log_after backing_before backing_after : State) → ServeStop → Type 0
+IsUnserved script log_before log_after backing_before backing_after (stop.Open cause) =
+    ((cause ≡ opening.Memory) × ((found : Super) × IsCutShort found script log_before log_after backing_before backing_after))
+    ⊎ (RefusesOpening log_before backing_before.sectors cause × IsUntouched (IsEarly cause) log_before log_after backing_before backing_after)
+IsUnserved script log_before log_after backing_before backing_after (stop.Changed parsed found) =
+    (parsed ≡ script.sectors) × (found < parsed)
+    × ((super : Super) × MayOpen log_before backing_before.sectors super × HasNoStray super.geometry super.recorded log_before × (found ≡ super.geometry.backing_sectors))
+    × IsUntouched ⊥ log_before log_after backing_before backing_after
+
+-- the answer says that the log failed, or that the backing device did
 abbrev pub SaysLogFault : Result Session ServeStop → Type 0
 SaysLogFault (Ok session) = session.log_failed ≡ true
-SaysLogFault (Err why) = why ≡ stop.Open (opening.Super refused.Fault)
+SaysLogFault (Err why) = (why ≡ stop.Open (opening.Super refused.Fault)) ⊎ (why ≡ stop.Open opening.LogFault)
+
+abbrev pub SaysBackingFault : Result Session ServeStop → Type 0
+SaysBackingFault (Ok session) = session.backing_failed ≡ true
+SaysBackingFault (Err why) = why ≡ stop.Open opening.BackingFault

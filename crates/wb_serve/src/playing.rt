@@ -1,9 +1,9 @@
 //! Answering the requests of a client over the engine.
-ghost use Rattle.std.specs.Prelude.{◌≡◌, ◌==◌, ◌+◌, ◌*◌, ◌/◌, ◌≤◌, [], ℕ, List, All, IfOk};
+ghost use Rattle.std.specs.Prelude.{◌≡◌, ◌==◌, ◌+◌, ◌*◌, ◌/◌, ◌≤◌, [], ℕ, List, All, IfOk, IfErr};
 ghost use Rattle.wb_geometry.specs.History.{HistoryEntry};
 ghost use Rattle.wb_script.specs.Transcripts.{is_failure};
 ghost use Rattle.wb_script.specs.declared.request.Request.TheVariants.{Read};
-ghost use Rattle.wb_serve.specs.Playing.{IsOneSector, HasCome, IsAnswered, IsPlayed, is_stopped_line};
+ghost use Rattle.wb_serve.specs.Playing.{IsOneSector, HasMoved, HasCome, IsAnswered, IsPlayed, IsPlayedInPart, is_stopped_line};
 
 use crate::writing::write;
 use std::alloc::{AllocError, Global};
@@ -24,7 +24,7 @@ pub struct Played {
     pub backing_failed: bool,
 }
 
-/// Answers the requests of a client over an engine that was just opened, in order. The log isn't called.
+/// Answers the requests of a client over an engine that was just opened, in order.
 pub fn play<L: Device, B: Device>(
     alloc: Global,
     engine: &mut Engine<L, B>,
@@ -32,11 +32,11 @@ pub fn play<L: Device, B: Device>(
     requests: &[Request],
 ) -> Result<Played, AllocError>
     requires asked { All (IsOneSector engine.old.geometry.backing_sectors) requests.now }
-    requires opened { HasCome (B.state engine.old.backing) (B.state engine.old.backing) engine.old engine.old [] 0 }
+    requires opened { HasCome (L.state engine.old.log) (L.state engine.old.log) (B.state engine.old.backing) (B.state engine.old.backing) engine.old engine.old [] 0 0 }
     ensures played { IfOk result (λ played. (history : List HistoryEntry)
-        × IsPlayed client requests.now (B.state engine.old.backing) (B.state engine.new.backing) engine.old engine.new
+        × IsPlayed client requests.now (L.state engine.old.log) (L.state engine.new.log) (B.state engine.old.backing) (B.state engine.new.backing) engine.old engine.new
         played.transcript history played.ids played.log_failed played.backing_failed) }
-    ensures log { engine.new.log ≡ engine.old.log }
+    ensures in_part { IfErr result (λ none. IsPlayedInPart client requests.now (L.state engine.old.log) (L.state engine.new.log) (B.state engine.old.backing) (B.state engine.new.backing) engine.old engine.new) }
 {
     let mut played = Played {
         transcript: Transcript::with_capacity(alloc, requests.len())?,
@@ -82,8 +82,8 @@ fn answer<L: Device, B: Device>(
     request: &Request,
 ) -> Result<Line, AllocError>
     requires { IsOneSector engine.old.geometry.backing_sectors request.now }
-    ensures answered { IfOk result (IsAnswered client request.now (B.state engine.old.backing) (B.state engine.new.backing) engine.old engine.new) }
-    ensures log { engine.new.log ≡ engine.old.log }
+    ensures answered { IfOk result (IsAnswered client request.now (L.state engine.old.log) (L.state engine.new.log) (B.state engine.old.backing) (B.state engine.new.backing) engine.old engine.new) }
+    ensures unanswered { IfErr result (λ none. HasMoved (L.state engine.old.log) (L.state engine.new.log) (B.state engine.old.backing) (B.state engine.new.backing) engine.old engine.new [] 0 0) }
 {
     match request {
         Request::Write {
@@ -104,8 +104,8 @@ fn read<L: Device, B: Device>(
 ) -> Result<Line, AllocError>
     requires { IsOneSector engine.old.geometry.backing_sectors (Read sector 1) }
     ensures answered { IfOk result (λ line. (client : ℕ)
-        → IsAnswered client (Read sector 1) (B.state engine.old.backing) (B.state engine.new.backing) engine.old engine.new line) }
-    ensures log { engine.new.log ≡ engine.old.log }
+        → IsAnswered client (Read sector 1) (L.state engine.old.log) (L.state engine.new.log) (B.state engine.old.backing) (B.state engine.new.backing) engine.old engine.new line) }
+    ensures unanswered { IfErr result (λ none. HasMoved (L.state engine.old.log) (L.state engine.new.log) (B.state engine.old.backing) (B.state engine.new.backing) engine.old engine.new [] 0 0) }
 {
     let mut bytes = [0; SECTOR_BYTES];
     match engine.read(sector, &mut bytes) {

@@ -1,10 +1,10 @@
 //! Serving a script on one thread.
-ghost use Rattle.std.specs.Prelude.{◌≡◌, IfOk, IfErr};
-ghost use Rattle.wb_geometry.specs.Device.{OnlyRead, CountsFaultsWhere};
+ghost use Rattle.std.specs.Prelude.{◌≡◌, ◌≢◌, Err, IfOk, IfErr};
+ghost use Rattle.wb_geometry.specs.Device.{CountsFaultsWhere};
 ghost use Rattle.wb_script.specs.Valid.{IsValid};
 ghost use Rattle.wb_super.specs.declared.reading.Super.{Super};
 ghost use Rattle.wb_engine.specs.declared.opening.OpenCause.TheVariants.{Memory};
-ghost use Rattle.wb_serve.specs.Session.{IsSession, IsUnserved, SaysLogFault};
+ghost use Rattle.wb_serve.specs.Session.{IsSession, IsUnserved, SaysLogFault, SaysBackingFault};
 ghost use Rattle.wb_serve.specs.Ending.{TellsOf, is_down_by};
 ghost use Rattle.wb_serve.specs.declared.serving.ServeStop.TheVariants.{Open};
 
@@ -44,7 +44,8 @@ pub struct Served<L: Device, B: Device> {
     pub answer: Result<Session, ServeStop>,
 }
 
-/// Opens the cache, serves the clients of the script one after another, and closes it.
+/// Opens the cache, serves the clients of the script one after another, and closes it. Nothing is said of faults where memory
+/// was wanting, which may come behind one.
 pub fn serve_plain<L: Device, B: Device>(
     alloc: Global,
     log: L,
@@ -54,9 +55,9 @@ pub fn serve_plain<L: Device, B: Device>(
     requires { IsValid script.now }
     ensures session { IfOk result.answer (λ s. (found : Super) × IsSession found script.now (L.state log) (L.state result.log) (B.state backing) (B.state result.backing)
         s.transcripts.items s.places s.ids s.log_failed s.backing_failed × (s.first ≡ found.recorded)) }
-    ensures unserved { IfErr result.answer (IsUnserved script.now.sectors (L.state log) (B.state backing) (B.state result.backing)) }
-    ensures log { OnlyRead (L.state log) (L.state result.log) }
-    ensures log_cause { CountsFaultsWhere (SaysLogFault result.answer) (L.state log).faults (L.state result.log).faults }
+    ensures unserved { IfErr result.answer (IsUnserved script.now (L.state log) (L.state result.log) (B.state backing) (B.state result.backing)) }
+    ensures log_cause { result.answer ≢ Err (Open Memory) → CountsFaultsWhere (SaysLogFault result.answer) (L.state log).faults (L.state result.log).faults }
+    ensures backing_cause { result.answer ≢ Err (Open Memory) → CountsFaultsWhere (SaysBackingFault result.answer) (B.state backing).faults (B.state result.backing).faults }
 {
     let mut engine = match Engine::open(alloc, log, backing) {
         Ok(engine) => engine,

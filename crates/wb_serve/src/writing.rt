@@ -1,10 +1,10 @@
 //! A write of a client over the engine.
-ghost use Rattle.std.specs.Prelude.{◌≡◌, ◌+◌, ◌*◌, ◌<◌, ◌≤◌, [], false, None, IfOk, IfSome};
+ghost use Rattle.std.specs.Prelude.{◌≡◌, ◌+◌, ◌*◌, ◌<◌, ◌≤◌, [], false, None, Some, IfOk, IfErr, IfSome};
 ghost use Rattle.wb_geometry.specs.Entering.{entered};
 ghost use Rattle.wb_script.specs.declared.request.Request.TheVariants.{Write};
 ghost use Rattle.wb_engine.specs.Content.{IsEngine, limit_of};
 ghost use Rattle.wb_engine.specs.Standing.{Fits};
-ghost use Rattle.wb_serve.specs.Playing.{IsOneSector, HasMoved, IsDownBy, TakesPlace, IsAnswered, wrote};
+ghost use Rattle.wb_serve.specs.Playing.{IsOneSector, HasMoved, HasRoom, TakesPlace, IsAnswered, wrote};
 
 use std::alloc::{AllocError, Global};
 use wb_device::Device;
@@ -27,8 +27,8 @@ pub fn write<L: Device, B: Device>(
 ) -> Result<Line, AllocError>
     requires { IsOneSector engine.old.geometry.backing_sectors (Write sector 1 pattern.now false) }
     ensures answered { IfOk result (IsAnswered client (Write sector 1 pattern.now false)
-        (B.state engine.old.backing) (B.state engine.new.backing) engine.old engine.new) }
-    ensures log { engine.new.log ≡ engine.old.log }
+        (L.state engine.old.log) (L.state engine.new.log) (B.state engine.old.backing) (B.state engine.new.backing) engine.old engine.new) }
+    ensures unanswered { IfErr result (λ none. HasMoved (L.state engine.old.log) (L.state engine.new.log) (B.state engine.old.backing) (B.state engine.new.backing) engine.old engine.new [] 0 0) }
 {
     let part = Part {
         block: sector / 8,
@@ -66,8 +66,7 @@ fn line_of(taken: Result<u64, Stop>) -> Line
 /// for its segment, or there is no room and the engine is down.
 fn take_place<L: Device, B: Device>(engine: &mut Engine<L, B>, entry: Entry) -> Result<u64, Stop>
     requires { Fits engine.old entry }
-    ensures taken { TakesPlace (B.state engine.old.backing) (B.state engine.new.backing) engine.old engine.new (entered entry) result }
-    ensures log { engine.new.log ≡ engine.old.log }
+    ensures taken { TakesPlace (L.state engine.old.log) (L.state engine.new.log) (B.state engine.old.backing) (B.state engine.new.backing) engine.old engine.new (entered entry) result }
 {
     let place = engine.absorbed();
     if engine.geometry().segment_of(place, engine.first()) > MOST_ID {
@@ -80,23 +79,22 @@ fn take_place<L: Device, B: Device>(engine: &mut Engine<L, B>, entry: Entry) -> 
     Ok(place)
 }
 
-/// Makes room for an entry where there is none: a turn frees a segment. Answers the device by which the engine is down, where
-/// there is no room.
+/// Makes room for an entry where there is none: turns are made until a segment was logged, whose memory is free then. Answers
+/// the device by which the engine is down, where there is no room.
 fn make_room<L: Device, B: Device>(engine: &mut Engine<L, B>) -> Option<Which>
     requires { IsEngine engine.old (L.state engine.old.log) (B.state engine.old.backing) }
-    ensures moved { HasMoved (B.state engine.old.backing) (B.state engine.new.backing) engine.old engine.new [] 0 }
+    ensures moved { HasMoved (L.state engine.old.log) (L.state engine.new.log) (B.state engine.old.backing) (B.state engine.new.backing) engine.old engine.new [] 0 0 }
     ensures room { result ≡ None → engine.new.absorbed < limit_of engine.new.geometry engine.new.numbers }
-    ensures down { IfSome result (IsDownBy engine.new) }
-    ensures log { engine.new.log ≡ engine.old.log }
+    ensures kept { HasRoom engine.old → engine.new ≡ engine.old }
+    ensures down { IfSome result (λ device. (engine.new.down ≡ Some device) × (limit_of engine.new.geometry engine.new.numbers ≤ engine.new.absorbed)) }
 {
-    if engine.absorbed() < engine.limit() {
-        return None;
+    while engine.absorbed() >= engine.limit() {
+        if let Some(device) = engine.down() {
+            return Some(device);
+        }
+        if let Err(device) = engine.turn() {
+            return Some(device);
+        }
     }
-    if let Some(device) = engine.down() {
-        return Some(device);
-    }
-    match engine.turn() {
-        Ok(_) => None,
-        Err(device) => Some(device),
-    }
+    None
 }

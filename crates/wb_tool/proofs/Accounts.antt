@@ -1,7 +1,6 @@
 -- Lemmas on what a run answers for.
-use Rattle.std.proofs.Common.{◌≡◌, ◌≢◌, ◌⊎◌, List, [], length, ℕ, ap, sym, subst, ◌∙◌, arith, inl, inr, refl, Option, Some, None, IfSome, Result, Ok, Err}
+use Rattle.std.proofs.Common.{◌≡◌, ◌≢◌, ◌⊎◌, List, length, ℕ, ap, sym, subst, ◌∙◌, arith, inl, inr, refl, Option, Some, None, IfSome, Result, Ok, Err}
 use Rattle.wb_geometry.specs.Device.{State, OnlyRead, CountsFaultsWhere}
-use Rattle.wb_geometry.proofs.Moments.{uncalled}
 use Rattle.wb_super.specs.Found.{IsSuper}
 use Rattle.wb_super.specs.declared.reading.Super.{Super}
 use Rattle.wb_super.specs.declared.reading.SuperRefused.{SuperRefused}
@@ -9,8 +8,7 @@ use Rattle.wb_super.specs.declared.reading.SuperRefused.TheVariants as refused
 use Rattle.wb_script.specs.Grammar.{IsTheScript, IsTheRefusal}
 use Rattle.wb_script.specs.Content.{ScriptContent}
 use Rattle.wb_script.specs.declared.refusal.Cause.{Cause}
-use Rattle.wb_script.specs.declared.transcript.Line.{Line}
-use Rattle.wb_tool.specs.Run.{Run, run_of, Lent, IsUntouched, NoSession, lent, EndsTelling, script_bytes}
+use Rattle.wb_tool.specs.Run.{Run, Lent, IsUntouched, lent, EndsTelling, script_bytes}
 use Rattle.std.specs.Io.KnownBytes.{IsAtEnd}
 use Rattle.wb_tool.specs.Reads.{IsRead}
 use Rattle.wb_tool.specs.Texts.{super_status, inspected_line}
@@ -49,12 +47,6 @@ spells before after sectors bytes text script read same good = told_script secto
 pub script_at_end : (before after : Option (List ℕ)) (sectors : ℕ) (bytes text : List ℕ) (script : ScriptContent) → IsRead before after bytes → text ≡ bytes
     → IsTheScript sectors text script → IsAtEnd after
 script_at_end before after sectors bytes text script read same good = read.at_end (let short = good.is.short in omega (arith, ap length same, short))
-
--- where the backing device isn't called, no session begins
-pub no_session : (source sink : Lent) (log_before log_after backing : State) (status : ℕ) (transcripts : List (List Line)) (places : ℕ)
-    → transcripts ≡ [] → places ≡ 0 → NoSession (run_of source sink log_before log_after backing backing status transcripts places)
-no_session source sink log_before log_after backing status transcripts places none zero =
-    record { transcripts = none; places = zero; backing = uncalled backing }
 
 -- a source or a sink that nothing was done with
 pub untouched : (before : Option (List ℕ)) (faults : ℕ) → IsUntouched (lent before before faults faults)

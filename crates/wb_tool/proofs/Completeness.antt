@@ -8,7 +8,7 @@ use Rattle.wb_geometry.proofs.Geometries.{places_few}
 use Rattle.wb_tool.proofs.Few.{few_places}
 use Rattle.wb_geometry.specs.Device.{State, IsDevice}
 use Rattle.wb_geometry.specs.declared.geometry.Geometry.{Geometry}
-use Rattle.wb_super.specs.Superblock.{SuperText, record_of}
+use Rattle.wb_super.specs.Superblock.{SuperText, record_of, header_id}
 use Rattle.wb_super.specs.Found.{IsSuper, most_record}
 use Rattle.wb_super.specs.declared.reading.Super.{Super}
 use Rattle.wb_super.proofs.Superblocks.{not_refused, one_geometry}
@@ -22,16 +22,18 @@ use Rattle.wb_tool.specs.Run as run
 use Rattle.wb_tool.specs.Texts.{super_status}
 use Rattle.wb_tool.specs.Opening.{EndsByLog, EndsByIds, EndsByBacking}
 use Rattle.wb_tool.specs.Serve as serve
-use Rattle.wb_tool.specs.Serve.{HasIds, ServeAccount}
+use Rattle.wb_tool.specs.Serve.{HasIds, IsStopped, ServeAccount}
 use Rattle.wb_tool.specs.Served.{Served}
 use Rattle.wb_tool.specs.Stages.{EndsReading}
 use Rattle.wb_script.specs.Output.{session_text}
 use Rattle.wb_script.specs.declared.transcript.Line.{Line}
+use Rattle.wb_engine.specs.Opening.{RefusesSlots}
+use Rattle.wb_engine.specs.declared.opening.OpenCause.TheVariants.{Stray}
 use Rattle.wb_serve.specs.Session.{IsSession}
 use Rattle.wb_tool.specs.Inspect.{InspectAccount}
 use Rattle.wb_tool.specs.Slot.{SlotAccount}
 use Rattle.wb_tool.specs.Format.{FormatAccount, Asks}
-use Rattle.wb_tool.specs.Account.{IsAccounted, IsComplete, TellsFormatted, LeavesIds, IsScripted, NoLogFault, NoFault, Succeeds}
+use Rattle.wb_tool.specs.Account.{IsAccounted, IsComplete, TellsFormatted, IsTidy, LeavesIds, IsScripted, NoLogFault, NoFault, Succeeds}
 
 -- a formatted log is refused only for a fault, which ends the run with status 6
 log_fault : (sink : Lent) (s : State) (status : ℕ) (image : Image) (g : Geometry) → IsDevice s → s.content ≡ Some image → SuperText image g 1
@@ -55,12 +57,13 @@ told_well : (r : Run) (text : List ℕ) → NoLogFault r → EndsTelling r.sink 
 told_well r text fine (inl done) = inl done.0
 told_well r text fine (inr cut) = absurd (fine.sink cut.1)
 
--- what is told of a log that is formatted, with a record that leaves ids
+-- what is told of a log that is formatted and tidy, with a record that leaves ids
 record IsReady (s : State) (g : Geometry) (image : Image) : Type 0 where
   device : IsDevice s
   told : s.content ≡ Some image
   text : SuperText image g 1
   bounded : record_of image ≤ most_record
+  tidy : IsTidy g image
   ids : LeavesIds g image
 
 -- its record is that of the superblock
@@ -88,13 +91,17 @@ not_spent s g image input script after backing_before backing_after transcripts 
     let few = few_places g.backing_sectors (script_bytes input) script transcripts places session.history good session.printed in
     let all = (session.ids_spent (session.ids_told spent)).1 in
     let each = (places_few found.geometry).0 in
-    let left : 2 ^ 26 ≤ 2 ^ 48 - found.recorded = omega (arith, same_record s g image found ready session.super, ready.ids) in
+    let left : 2 ^ 26 ≤ 2 ^ 48 - found.recorded = omega (arith, same_record s g image found ready session.opened.super, ready.ids) in
     let more : 1 * (2 ^ 48 - found.recorded) ≤ layout.places found.geometry * (2 ^ 48 - found.recorded) = mul-le-mul_right (2 ^ 48 - found.recorded) each in
     omega (arith, few, all, left, more)
 
 -- the status isn't that of a log that failed
 not_at_6 : (r : Run) → ServeAccount r → NoFault r → r.status ≡ 6 → ⊥
 not_at_6 r account fine six = fine.fine.log ((account.log_faults (λ one. omega arith)).failed six)
+
+-- nor that of a backing device that did
+not_at_7 : (r : Run) → ServeAccount r → NoFault r → r.status ≡ 7 → ⊥
+not_at_7 r account fine seven = fine.backing ((account.backing_faults (λ one. omega arith) (λ six. omega arith)).failed seven)
 
 -- a session succeeds, where nothing failed
 session_well : (r : Run) (g : Geometry) (image : Image) (input : List ℕ) (script : ScriptContent) → NoFault r → ServeAccount r → IsReady r.log_before g image
@@ -104,7 +111,7 @@ session_well r g image input script fine account ready good served =
     elim served.ends [
       | inl failed ↦ absurd (not_at_6 r account fine failed.1)
       | inr rest ↦ elim rest [
-        | inl failed ↦ absurd (fine.backing ((account.backing_faults (λ one. let seven = failed.2 in omega arith) (λ six. let seven = failed.2 in omega arith)).failed failed.2))
+        | inl failed ↦ absurd (not_at_7 r account fine failed.2)
         | inr rest ↦ elim rest [
           | inl spent ↦ absurd (not_spent r.log_before g image input script r.log_after r.backing_before r.backing_after r.transcripts r.places served.found served.ids served.log_failed served.backing_failed
               ready good served.session spent.1)
@@ -125,16 +132,36 @@ not_changed s g image bytes script found ready good super fewer =
     let same = ap (λ (h : Geometry). h.backing_sectors) (same_geometry s image g found ready.told ready.text super) in
     omega (arith, same, good.sectors_are, fewer)
 
+-- no slot of it is refused
+not_stray : (s : State) (g : Geometry) (image : Image) (found : Super) (slot id : ℕ) → IsReady s g image → IsSuper s found → RefusesSlots found.geometry found.recorded s (Stray slot id) → ⊥
+not_stray s g image found slot id ready super (below, above, first) =
+    let geometry : found.geometry ≡ g = same_geometry s image g found ready.told ready.text super in
+    let here : header_id found.geometry image slot ≡ id =
+    (subst (λ (content : Option Image). IfSome content (λ x. (header_id found.geometry x slot ≡ id) × ((earlier : ℕ) → earlier < slot → header_id found.geometry x earlier ≤ found.recorded))) ready.told first).0 in
+    let inside : slot < g.slots = subst (λ (h : Geometry). slot < h.slots) geometry below in
+    let same : header_id g image slot ≡ id = subst (λ (h : Geometry). header_id h image slot ≡ id) geometry here in
+    omega (arith, same, ready.tidy slot inside, same_record s g image found ready super, above)
+
+-- so nothing but a fault stops it as the cache is opened
+not_stopped : (r : Run) (g : Geometry) (image : Image) (bytes : List ℕ) (script : ScriptContent) → NoFault r → ServeAccount r → IsReady r.log_before g image → IsScript g.backing_sectors bytes script
+    → IsStopped script.sectors r → ⊥
+not_stopped r g image bytes script fine account ready good (inl stray) =
+    not_stray r.log_before g image stray.found stray.slot stray.id ready stray.may.super stray.stray
+not_stopped r g image bytes script fine account ready good (inr (inl failed)) = not_at_6 r account fine failed.ended
+not_stopped r g image bytes script fine account ready good (inr (inr (inl failed))) = not_at_7 r account fine failed.ended
+not_stopped r g image bytes script fine account ready good (inr (inr (inr change))) =
+    not_changed r.log_before g image bytes script change.found ready good change.super change.fewer
+
 scripted_well : (r : Run) (g : Geometry) (image : Image) (input : List ℕ) → NoFault r → ServeAccount r → IsReady r.log_before g image → g.backing_sectors ≤ r.backing_before.sectors
     → r.source.before ≡ Some input → serve.IsScripted g.backing_sectors r → Succeeds r
 scripted_well r g image input fine account ready room told scripted =
     let good : IsScript g.backing_sectors (script_bytes input) scripted.script = the_good r.source g.backing_sectors input scripted.script told scripted.spelled in
     elim scripted.ends [
-      | inl none ↦ elim none.1 [
-        | inl unopened ↦ absurd (not_at_6 r account fine (opens r.sink r.log_before g image r.backing_before.sectors r.status ready room unopened))
-        | inr change ↦ absurd (not_changed r.log_before g image (script_bytes input) scripted.script change.found ready good change.super change.fewer)
+      | inl unbegun ↦ absurd (not_at_6 r account fine (opens r.sink r.log_before g image r.backing_before.sectors r.status ready room unbegun.1))
+      | inr rest ↦ elim rest [
+        | inl broken ↦ absurd (not_stopped r g image (script_bytes input) scripted.script fine account ready good broken.1)
+        | inr served ↦ session_well r g image input scripted.script fine account ready good served
       ]
-      | inr served ↦ session_well r g image input scripted.script fine account ready good served
     ]
 
 read_well : (r : Run) (g : Geometry) (image : Image) (input : List ℕ) (script : ScriptContent) → NoFault r → ServeAccount r → IsReady r.log_before g image → g.backing_sectors ≤ r.backing_before.sectors
@@ -144,10 +171,10 @@ read_well r g image input script fine account ready room told good (inl (none, i
     absurd (not_script r.source g.backing_sectors refused.line refused.cause input script told good refused.refused)
 read_well r g image input script fine account ready room told good (inr scripted) = scripted_well r g image input fine account ready room told scripted
 
-serve_complete : (r : Run) → IsDevice r.log_before → ServeAccount r → NoFault r → (g : Geometry) → (formatted : TellsFormatted r g) → LeavesIds g formatted.image
+serve_complete : (r : Run) → IsDevice r.log_before → ServeAccount r → NoFault r → (g : Geometry) → (formatted : TellsFormatted r g) → IsTidy g formatted.image → LeavesIds g formatted.image
     → g.backing_sectors ≤ r.backing_before.sectors → IsScripted r g → Succeeds r
-serve_complete r device account fine g formatted ids room scripted =
-    let ready : IsReady r.log_before g formatted.image = record { device = device; told = formatted.told; text = formatted.text; bounded = formatted.bounded; ids = ids } in
+serve_complete r device account fine g formatted tidy ids room scripted =
+    let ready : IsReady r.log_before g formatted.image = record { device = device; told = formatted.told; text = formatted.text; bounded = formatted.bounded; tidy = tidy; ids = ids } in
     elim account.ends [
       | inl one ↦ inr one
       | inr rest ↦ elim rest [

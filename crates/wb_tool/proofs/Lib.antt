@@ -1,7 +1,10 @@
 pub mod Runs
 pub mod Moved
+pub mod Earlier
 pub mod Servings
 pub mod Sessions
+pub mod Stops
+pub mod Sources
 pub mod Unserved
 pub mod Few
 pub mod Words

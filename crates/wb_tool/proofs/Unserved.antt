@@ -8,11 +8,12 @@ use Rattle.wb_super.specs.declared.reading.Super.{Super}
 use Rattle.wb_super.specs.declared.reading.SuperRefused.{SuperRefused}
 use Rattle.wb_super.specs.declared.reading.SuperRefused.TheVariants as refused
 use Rattle.wb_engine.specs.Opening.{most_recorded}
+use Rattle.wb_geometry.proofs.Moments.{uncalled}
 use Rattle.wb_tool.specs.Run.{Lent, Run, run_of, lent, Took}
 use Rattle.wb_tool.specs.Texts.{super_status, super_line, small_line, spent_record_line}
 use Rattle.wb_tool.specs.Serve.{IsUnopened, HasIds, ServeAccount}
-use Rattle.wb_tool.proofs.Accounts.{faults_by, faults_ok, no_session, untouched, status_not_6, either_status}
-use Rattle.wb_tool.proofs.Sessions.{super_at_7}
+use Rattle.wb_tool.proofs.Accounts.{faults_by, faults_ok, untouched, status_not_6, either_status}
+use Rattle.wb_tool.proofs.Stops.{super_at_7}
 
 -- a run that isn't given the source's bytes, nor calls the backing device
 abbrev Unread : (told : Option (List ℕ)) (faults : ℕ) (sink : Lent) (log_before log_after backing : State) (status : ℕ) → Run
@@ -24,13 +25,13 @@ unserved : (told : Option (List ℕ)) (faults : ℕ) (sink : Lent) (log_before l
     → ServeAccount (Unread told faults sink log_before log_after backing status)
 unserved told faults sink log_before log_after backing status read counts other ends =
     let run : Run = Unread told faults sink log_before log_after backing status in record {
-      log = read;
       log_faults = λ _. counts;
       backing_faults = λ some _. record { later = omega arith; failed = λ seven. absurd (other some seven); kept = λ _. refl };
+      wanting = λ one. inl (read, uncalled backing);
       ends = elim ends [
         | inl one ↦ inl one
         | inr unopened ↦ inr (inl (record {
-          no_session = no_session (lent told told faults faults) sink log_before log_after backing status [] 0 refl refl;
+          unbegun = record { no_session = record { transcripts = refl; places = refl }; backing = uncalled backing; log = read };
           unread = untouched told faults;
           ends = unopened;
         }))

@@ -4,14 +4,14 @@ use Rattle.wb_geometry.specs.Image.{Image}
 use Rattle.wb_geometry.specs.Layout.{log_sectors}
 use Rattle.wb_geometry.specs.Device.{IsUncalled}
 use Rattle.wb_geometry.specs.declared.geometry.Geometry.{Geometry}
-use Rattle.wb_super.specs.Superblock.{SuperText, record_of}
+use Rattle.wb_super.specs.Superblock.{SuperText, record_of, header_id}
 use Rattle.wb_super.specs.Found.{most_record}
 use Rattle.wb_script.specs.Content.{ScriptContent}
 use Rattle.wb_script.specs.Grammar.{IsScript}
 use Rattle.wb_tool.specs.declared.command.Command.{Command}
 use Rattle.wb_tool.specs.declared.command.Numbers.{Numbers}
 use Rattle.wb_tool.specs.Commands.{IsForm, IsServe, IsInspect, IsInspectSlot, IsFormat}
-use Rattle.wb_tool.specs.Run.{Run, HasFailed, IsUntouched, LogHasFailed, BackingHasFailed, NoSession, Took, script_bytes}
+use Rattle.wb_tool.specs.Run.{Run, HasFailed, IsUntouched, LogHasFailed, BackingHasFailed, NoSession, BackingIsUncalled, Took, script_bytes}
 use Rattle.wb_tool.specs.Texts.{usage_line}
 use Rattle.wb_tool.specs.Serve.{ServeAccount}
 use Rattle.wb_tool.specs.Format.{FormatAccount, Asks}
@@ -23,6 +23,7 @@ pub record UsageAccount (run : Run) : Type 0 where
   pub status : run.status ≡ 2
   pub told : Took run.sink usage_line
   pub no_session : NoSession run
+  pub backing : BackingIsUncalled run
   pub unread : IsUntouched run.source
   pub log : IsUncalled run.log_before run.log_after
 
@@ -40,6 +41,10 @@ pub record TellsFormatted (run : Run) (g : Geometry) : Type 0 where
   pub told : run.log_before.content ≡ Some image
   pub text : SuperText image g 1
   pub bounded : record_of image ≤ most_record
+
+-- no slot of this log has an id above its record
+abbrev pub IsTidy : Geometry → Image → Type 0
+IsTidy g image = (slot : ℕ) → slot < g.slots → header_id g image slot ≤ record_of image
 
 -- the record of this log leaves ids for each session of a script
 abbrev pub LeavesIds : Geometry → Image → Type 0
@@ -69,7 +74,7 @@ Succeeds run = (run.status ≡ 0) ⊎ (run.status ≡ 1)
 
 -- a run over good devices, with a good script where one is read, succeeds but for want of memory
 pub record IsComplete (words : List (List ℕ)) (run : Run) : Type 0 where
-  pub serve : IsServe words → NoFault run → (g : Geometry) → (formatted : TellsFormatted run g) → LeavesIds g formatted.image
+  pub serve : IsServe words → NoFault run → (g : Geometry) → (formatted : TellsFormatted run g) → IsTidy g formatted.image → LeavesIds g formatted.image
       → g.backing_sectors ≤ run.backing_before.sectors → IsScripted run g → Succeeds run
   pub format : (numbers : Numbers) → IsFormat numbers words → NoLogFault run → 8 ≤ run.backing_before.sectors
       → (g : Geometry) → Asks numbers run.backing_before.sectors g → log_sectors g ≤ run.log_before.sectors → Succeeds run

@@ -7,7 +7,7 @@ use Rattle.wb_geometry.specs.declared.geometry.Geometry.{Geometry}
 use Rattle.wb_geometry.specs.declared.which.Which.TheVariants.{Log}
 use Rattle.wb_super.specs.Formatting.{Formats, FormatsOrNot}
 use Rattle.wb_tool.specs.declared.command.Numbers.{Numbers}
-use Rattle.wb_tool.specs.Run.{Lent, Run, IsUntouched, NoSession, Took, EndsTelling, usable}
+use Rattle.wb_tool.specs.Run.{Lent, Run, IsUntouched, NoSession, BackingIsUncalled, Took, EndsTelling, usable}
 use Rattle.wb_tool.specs.Texts.{small_line, failed_line, formatted_line}
 use Rattle.wb_tool.specs.Opening.{EndsByBacking}
 
@@ -57,5 +57,6 @@ pub record FormatEnds (numbers : Numbers) (sectors : ℕ) (sink : Lent) (before 
 
 pub record FormatAccount (numbers : Numbers) (run : Run) : Type 0 where
   pub no_session : NoSession run
+  pub backing : BackingIsUncalled run
   pub unread : IsUntouched run.source
   pub ends : FormatEnds numbers run.backing_before.sectors run.sink run.log_before run.log_after run.status

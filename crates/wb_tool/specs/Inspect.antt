@@ -3,7 +3,7 @@ use Rattle.std.specs.Prelude.{ℕ, ◌≡◌, ◌⊎◌}
 use Rattle.wb_geometry.specs.Device.{State, OnlyRead, CountsFaultsWhere}
 use Rattle.wb_super.specs.Found.{IsSuper}
 use Rattle.wb_super.specs.declared.reading.Super.{Super}
-use Rattle.wb_tool.specs.Run.{Lent, Run, IsUntouched, NoSession, EndsTelling}
+use Rattle.wb_tool.specs.Run.{Lent, Run, IsUntouched, NoSession, BackingIsUncalled, EndsTelling}
 use Rattle.wb_tool.specs.Texts.{inspected_line}
 use Rattle.wb_tool.specs.Opening.{EndsByLog}
 
@@ -21,5 +21,6 @@ pub record InspectEnds (sink : Lent) (before after : State) (status : ℕ) : Typ
 
 pub record InspectAccount (run : Run) : Type 0 where
   pub no_session : NoSession run
+  pub backing : BackingIsUncalled run
   pub unread : IsUntouched run.source
   pub ends : InspectEnds run.sink run.log_before run.log_after run.status

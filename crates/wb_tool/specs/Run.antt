@@ -70,11 +70,14 @@ BackingHasFailed run = Rose run.backing_before.faults run.backing_after.faults
 abbrev pub BackingHasNotFailed : Run → Type 0
 BackingHasNotFailed run = run.backing_after.faults ≡ run.backing_before.faults
 
--- no session began: there is no transcript and no place, and the backing device wasn't called
+-- no session began: there is no transcript and no place
 pub record NoSession (run : Run) : Type 0 where
   pub transcripts : run.transcripts ≡ []
   pub places : run.places ≡ 0
-  pub backing : IsUncalled run.backing_before run.backing_after
+
+-- the backing device wasn't called
+abbrev pub BackingIsUncalled : Run → Type 0
+BackingIsUncalled run = IsUncalled run.backing_before run.backing_after
 
 -- the sectors that can be served of a backing device of so many: whole blocks of eight, and 2 ^ 40 sectors at most
 abbrev pub usable : ℕ → ℕ

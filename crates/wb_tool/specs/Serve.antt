@@ -2,14 +2,18 @@
 use Rattle.std.specs.Prelude.{ℕ, ◌≡◌, ◌≢◌, ◌⊎◌, ◌<◌, ◌≤◌, ◌+◌, List, length}
 use Rattle.std.specs.Io.KnownBytes.{Consumes, IsAtEnd}
 use Rattle.wb_geometry.specs.Device.{OnlyRead, CountsFaultsWhere}
+use Rattle.wb_geometry.specs.declared.which.Which.{Which}
+use Rattle.wb_geometry.specs.declared.which.Which.TheVariants.{Log, Backing}
 use Rattle.wb_super.specs.Found.{IsSuper}
 use Rattle.wb_super.specs.declared.reading.Super.{Super}
 use Rattle.wb_script.specs.Grammar.{most_bytes}
 use Rattle.wb_script.specs.Content.{ScriptContent}
 use Rattle.wb_script.specs.declared.refusal.Cause.{Cause}
-use Rattle.wb_engine.specs.Opening.{most_recorded}
-use Rattle.wb_tool.specs.Run.{Run, HasFailed, HasNotFailed, IsUntouched, NoSession, Spells, Refuses, Took}
-use Rattle.wb_tool.specs.Texts.{source_line, refused_line, changed_line}
+use Rattle.wb_engine.specs.Opening.{most_recorded, MayOpen, RefusesSlots, IsOnlySynced}
+use Rattle.wb_engine.specs.declared.opening.OpenCause.TheVariants.{Stray}
+use Rattle.wb_serve.specs.Session.{IsCutShort}
+use Rattle.wb_tool.specs.Run.{Run, HasFailed, HasNotFailed, IsUntouched, NoSession, BackingIsUncalled, Spells, Refuses, Took}
+use Rattle.wb_tool.specs.Texts.{source_line, refused_line, changed_line, stray_line, failed_line}
 use Rattle.wb_tool.specs.Opening.{EndsByLog, EndsByIds, EndsByBacking}
 use Rattle.wb_tool.specs.Served.{Served}
 
@@ -25,6 +29,50 @@ IsUnopened run =
     ⊎ ((found : Super) × IsSuper run.log_before found × EndsByIds found run.sink run.status)
     ⊎ ((found : Super) × IsSuper run.log_before found × HasIds found × EndsByBacking found.geometry.backing_sectors run.backing_before.sectors run.sink run.status)
 
+-- no session began, and nothing was done with the devices but that the log was read
+pub record IsUnbegun (run : Run) : Type 0 where
+  pub no_session : NoSession run
+  pub backing : BackingIsUncalled run
+  pub log : OnlyRead run.log_before run.log_after
+
+-- no session began, as the cache was opened: both devices were synced at most, and the log was read
+pub record IsBrokenOff (run : Run) : Type 0 where
+  pub no_session : NoSession run
+  pub log : IsOnlySynced run.log_before run.log_after
+  pub backing : IsOnlySynced run.backing_before run.backing_after
+
+-- What a run that ended for want of memory left of the devices, where the source held this script: they were read and synced
+-- at most, or are as a session of the first requests of each client leaves them.
+abbrev pub IsLeftBy : ScriptContent → Run → Type 0
+IsLeftBy script run =
+    (IsOnlySynced run.log_before run.log_after × IsOnlySynced run.backing_before run.backing_after)
+    ⊎ ((found : Super) × IsCutShort found script run.log_before run.log_after run.backing_before run.backing_after)
+
+-- before a script is found nothing is done with the devices but that the log is read
+abbrev pub OnlyLogRead : Run → Type 0
+OnlyLogRead run = OnlyRead run.log_before run.log_after × BackingIsUncalled run
+
+-- the same of a run from the source on
+abbrev pub IsLeftFrom : (sectors : ℕ) → Run → Type 0
+IsLeftFrom sectors run = OnlyLogRead run ⊎ ((script : ScriptContent) × Spells sectors run.source script × IsLeftBy script run)
+
+-- a slot of the log has an id above the record, and it is the first that has
+pub record EndsByStray (run : Run) : Type 0 where
+  pub found : Super
+  pub may : MayOpen run.log_before run.backing_before.sectors found
+  pub slot : ℕ
+  pub id : ℕ
+  pub stray : RefusesSlots found.geometry found.recorded run.log_before (Stray slot id)
+  pub ended : run.status ≡ 8
+  pub told : Took run.sink (stray_line slot id)
+
+-- the device failed as the cache was opened
+pub record EndsByFault (device : Which) (status : ℕ) (run : Run) : Type 0 where
+  pub found : Super
+  pub may : MayOpen run.log_before run.backing_before.sectors found
+  pub ended : run.status ≡ status
+  pub told : Took run.sink (failed_line device)
+
 -- the cache has fewer backing sectors than the script was made for
 pub record EndsByChange (parsed : ℕ) (run : Run) : Type 0 where
   pub found : Super
@@ -33,9 +81,13 @@ pub record EndsByChange (parsed : ℕ) (run : Run) : Type 0 where
   pub ended : run.status ≡ 8
   pub told : Took run.sink (changed_line parsed found.geometry.backing_sectors)
 
--- that is seen before the source is read
+-- what ends a run as the cache is opened behind a good script
+abbrev pub IsStopped : (parsed : ℕ) → Run → Type 0
+IsStopped parsed run = EndsByStray run ⊎ EndsByFault Log 6 run ⊎ EndsByFault Backing 7 run ⊎ EndsByChange parsed run
+
+-- the cache can't be opened, and that is seen before the source is read
 pub record IsUnserved (run : Run) : Type 0 where
-  pub no_session : NoSession run
+  pub unbegun : IsUnbegun run
   pub unread : IsUntouched run.source
   pub ends : IsUnopened run
 
@@ -64,7 +116,7 @@ pub record IsScripted (sectors : ℕ) (run : Run) : Type 0 where
   pub script : ScriptContent
   pub spelled : Spells sectors run.source script
   pub at_end : IsAtEnd run.source.after
-  pub ends : (NoSession run × (IsUnopened run ⊎ EndsByChange script.sectors run))
+  pub ends : (IsUnbegun run × IsUnopened run) ⊎ (IsBrokenOff run × IsStopped script.sectors run)
       ⊎ Served script run.sink run.log_before run.log_after run.backing_before run.backing_after run.status run.transcripts run.places
 
 -- both devices are good, and ids are left: a script is read, and served where it is good
@@ -73,12 +125,12 @@ pub record IsOpened (run : Run) : Type 0 where
   pub super : IsSuper run.log_before found
   pub ids : HasIds found
   pub room : found.geometry.backing_sectors ≤ run.backing_before.sectors
-  pub ends : (NoSession run × (EndsBySource run ⊎ EndsByScript found.geometry.backing_sectors run)) ⊎ IsScripted found.geometry.backing_sectors run
+  pub ends : (IsUnbegun run × (EndsBySource run ⊎ EndsByScript found.geometry.backing_sectors run)) ⊎ IsScripted found.geometry.backing_sectors run
 
--- The log is only read. Where memory was wanting nothing else is said; else its faults rose exactly at status 6, those of
--- the backing device exactly at 7, but for 6, and the run ended at one of the stages.
+-- Where memory was wanting, at status 1, only the devices are spoken of; else the faults of the log rose exactly at status 6,
+-- those of the backing device exactly at 7, but for 6, and the run ended at one of the stages.
 pub record ServeAccount (run : Run) : Type 0 where
-  pub log : OnlyRead run.log_before run.log_after
   pub log_faults : run.status ≢ 1 → CountsFaultsWhere (run.status ≡ 6) run.log_before.faults run.log_after.faults
   pub backing_faults : run.status ≢ 1 → run.status ≢ 6 → CountsFaultsWhere (run.status ≡ 7) run.backing_before.faults run.backing_after.faults
+  pub wanting : run.status ≡ 1 → OnlyLogRead run ⊎ ((found : Super) × IsSuper run.log_before found × IsLeftFrom found.geometry.backing_sectors run)
   pub ends : (run.status ≡ 1) ⊎ IsUnserved run ⊎ IsOpened run

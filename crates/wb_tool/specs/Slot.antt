@@ -4,7 +4,7 @@ use Rattle.wb_geometry.specs.Device.{State, OnlyRead, CountsFaultsWhere}
 use Rattle.wb_geometry.specs.declared.which.Which.TheVariants.{Log}
 use Rattle.wb_super.specs.Found.{IsSuper}
 use Rattle.wb_super.specs.declared.reading.Super.{Super}
-use Rattle.wb_tool.specs.Run.{Lent, Run, IsUntouched, NoSession, Took, EndsTelling}
+use Rattle.wb_tool.specs.Run.{Lent, Run, IsUntouched, NoSession, BackingIsUncalled, Took, EndsTelling}
 use Rattle.wb_tool.specs.Texts.{no_slot_line, failed_line}
 use Rattle.wb_tool.specs.SlotTexts.{slot_bytes, TellsSlot}
 use Rattle.wb_tool.specs.Opening.{EndsByLog}
@@ -42,5 +42,6 @@ pub record SlotEnds (slot : ℕ) (sink : Lent) (before after : State) (status : 
 
 pub record SlotAccount (slot : ℕ) (run : Run) : Type 0 where
   pub no_session : NoSession run
+  pub backing : BackingIsUncalled run
   pub unread : IsUntouched run.source
   pub ends : SlotEnds slot run.sink run.log_before run.log_after run.status

@@ -39,6 +39,10 @@ spent_line place = codes "wblog: ids spent, place " ++ decimal place ++ newline
 abbrev pub changed_line : (parsed found : ℕ) → List ℕ
 changed_line parsed found = codes "wblog: log image: changed " ++ decimal parsed ++ codes " " ++ decimal found ++ newline
 
+-- a slot of the log has an id above the record
+abbrev pub stray_line : (slot id : ℕ) → List ℕ
+stray_line slot id = codes "wblog: log image: stray slot " ++ decimal slot ++ codes " id " ++ decimal id ++ newline
+
 -- a checksum: eight hexadecimal digits, the highest first
 abbrev pub sum_text : ℕ → List ℕ
 sum_text sum = encode_lower (to_be_bytes w32 sum)

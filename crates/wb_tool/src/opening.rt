@@ -2,11 +2,13 @@
 ghost use Rattle.std.specs.Prelude.{◌≡◌, ◌⊎◌};
 ghost use Rattle.wb_geometry.specs.declared.which.Which.TheVariants.{Backing};
 ghost use Rattle.wb_tool.specs.Run.{lent, Took};
-ghost use Rattle.wb_tool.specs.Texts.{super_line, super_status, small_line, spent_record_line, changed_line};
+ghost use Rattle.wb_tool.specs.Texts.{super_line, super_status, small_line, spent_record_line, changed_line, stray_line};
 ghost use Rattle.wb_super.specs.declared.reading.SuperRefused.TheVariants.{Fault};
 
 use crate::status;
-use crate::texts::{LOG_FAILED, changed_text, small_text, spent_record_text, super_text, tell};
+use crate::texts::{
+    LOG_FAILED, changed_text, small_text, spent_record_text, stray_text, super_text, tell,
+};
 use std::alloc::Global;
 use wb_device::Sink;
 use wb_geometry::Which;
@@ -62,6 +64,18 @@ pub fn refuse_change<K: Sink>(alloc: Global, sink: &mut K, parsed: u64, found: u
         × Took (lent (K.taken sink.old) (K.taken sink.new) (K.faults sink.old) (K.faults sink.new)) (changed_line parsed found)) }
 {
     let Ok(text) = changed_text(alloc, parsed, found) else {
+        return status::MEMORY;
+    };
+    tell(sink, text.as_str());
+    status::IMAGE
+}
+
+/// Tells which slot of the log has an id above the record. Answers the status.
+pub fn refuse_stray<K: Sink>(alloc: Global, sink: &mut K, slot: u32, id: u64) -> u8
+    ensures { (result ≡ 1) ⊎ ((result ≡ 8)
+        × Took (lent (K.taken sink.old) (K.taken sink.new) (K.faults sink.old) (K.faults sink.new)) (stray_line slot id)) }
+{
+    let Ok(text) = stray_text(alloc, slot, id) else {
         return status::MEMORY;
     };
     tell(sink, text.as_str());

@@ -53,7 +53,8 @@ impl<L: Device, B: Device> Outcome<L, B> {
 /// ORDER SLOTS RAM` makes an empty log for the whole blocks of the backing device, and `inspect LOG BACKING` tells the
 /// superblock and the record of one; with a number behind it, what is in that slot. Words of another form are refused.
 /// Where no session began, the backing device is as it was, and only `format` writes to the log. At status 1, want of
-/// memory, nothing is said of the output, nor for `serve` of the backing device.
+/// memory, nothing is said of the output; what `serve` then leaves of the devices, or a crash does, is what a session of the
+/// first of each client's requests leaves.
 pub fn run_single<S: Source, K: Sink, L: Device, B: Device>(
     alloc: Global,
     words: &[String],

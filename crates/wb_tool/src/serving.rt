@@ -4,10 +4,10 @@ ghost use Rattle.wb_script.specs.Output.{session_text};
 ghost use Rattle.wb_script.specs.Valid.{IsValid};
 ghost use Rattle.wb_tool.specs.Run.{run_of, lent, no_source};
 ghost use Rattle.wb_tool.specs.Served.{EndsSession};
-ghost use Rattle.wb_tool.specs.Serve.{ServeAccount};
+ghost use Rattle.wb_tool.specs.Serve.{ServeAccount, IsLeftBy, IsLeftFrom};
 ghost use Rattle.wb_tool.specs.Stages.{Leaves, EndsReading, EndsServing, EndsUnserved, TellsFault, IsCutAt};
 
-use crate::opening::{refuse_backing, refuse_change, refuse_ids, refuse_log};
+use crate::opening::{refuse_backing, refuse_change, refuse_ids, refuse_log, refuse_stray};
 use crate::reading::{ReadStop, read_all};
 use crate::run::Outcome;
 use crate::status;
@@ -75,7 +75,7 @@ fn serve_source<S: Source, K: Sink, L: Device, B: Device>(
     backing: B,
     geometry: &Geometry,
 ) -> Outcome<L, B>
-    ensures { Leaves (EndsReading geometry.now.backing_sectors) (run_of
+    ensures { Leaves (EndsReading geometry.now.backing_sectors) (IsLeftFrom geometry.now.backing_sectors) (run_of
         (lent (S.left source.old) (S.left source.new) (S.faults source.old) (S.faults source.new))
         (lent (K.taken sink.old) (K.taken sink.new) (K.faults sink.old) (K.faults sink.new))
         (L.state log) (L.state result.log) (B.state backing) (B.state result.backing)
@@ -113,7 +113,7 @@ fn serve_script<K: Sink, L: Device, B: Device>(
     script: &Script,
 ) -> Outcome<L, B>
     requires valid { IsValid script.now }
-    ensures { Leaves (EndsServing script.now) (run_of no_source
+    ensures { Leaves (EndsServing script.now) (IsLeftBy script.now) (run_of no_source
         (lent (K.taken sink.old) (K.taken sink.new) (K.faults sink.old) (K.faults sink.new))
         (L.state log) (L.state result.log) (B.state backing) (B.state result.backing)
         result.status result.transcripts.items result.places) }
@@ -153,6 +153,15 @@ fn refuse_session<K: Sink>(alloc: Global, sink: &mut K, stop: ServeStop) -> u8
             refuse_backing(alloc, sink, has, needs)
         }
         ServeStop::Open(OpenCause::Memory) => status::MEMORY,
+        ServeStop::Open(OpenCause::LogFault) => {
+            tell(sink, LOG_FAILED);
+            status::LOG
+        }
+        ServeStop::Open(OpenCause::BackingFault) => {
+            tell(sink, BACKING_FAILED);
+            status::BACKING
+        }
+        ServeStop::Open(OpenCause::Stray { slot, id }) => refuse_stray(alloc, sink, slot, id),
         ServeStop::Changed { parsed, found } => refuse_change(alloc, sink, parsed, found),
     }
 }

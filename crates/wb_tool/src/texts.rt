@@ -2,7 +2,7 @@
 ghost use Rattle.std.specs.Prelude.{◌≡◌, IfOk};
 ghost use Rattle.std.specs.String.{string_bytes};
 ghost use Rattle.wb_tool.specs.Run.{lent, Took, EndsTelling};
-ghost use Rattle.wb_tool.specs.Texts.{small_line, refused_line, spent_record_line, spent_line, changed_line, sum_text, super_line, geometry_text, formatted_line, inspected_line};
+ghost use Rattle.wb_tool.specs.Texts.{small_line, refused_line, spent_record_line, spent_line, changed_line, stray_line, sum_text, super_line, geometry_text, formatted_line, inspected_line};
 
 use crate::status;
 use std::alloc::{AllocError, Global};
@@ -59,6 +59,13 @@ pub fn changed_text(alloc: Global, parsed: u64, found: u64) -> Result<String, Al
     ensures { IfOk result (λ text. string_bytes text ≡ changed_line parsed found) }
 {
     format!(in alloc; "wblog: log image: changed {parsed} {found}\n")
+}
+
+/// The line for a slot of the log whose id is above the record.
+pub fn stray_text(alloc: Global, slot: u32, id: u64) -> Result<String, AllocError>
+    ensures { IfOk result (λ text. string_bytes text ≡ stray_line slot id) }
+{
+    format!(in alloc; "wblog: log image: stray slot {slot} id {id}\n")
 }
 
 /// The line for a superblock that is refused, or can't be read.

@@ -1,8 +1,7 @@
 //! Tests of devices of which each call fails in turn.
-use super::brittle::{Brittle, Call};
-use super::{SECTOR_BYTES, empty_log, recorded_log, run, serve, text_of};
+use super::case::Call::{self, Read, Sync, Write};
+use super::case::{Calls, Case, FAULT, Failing, LOG_FAULT, Output, SERVE, comes};
 use std::test::Fail;
-use wb_device::{FaultPlan, MemoryDevice};
 
 const SCRIPT: &str = "\
 clients 1
@@ -13,133 +12,340 @@ clients 1
 0 w 8 1 bb
 ";
 
+// Its writes.
+const WRITES: [(usize, u8); 2] = [(0, 0xaa), (8, 0xbb)];
+
+// What is answered, in pieces: the two reads of what the backing device alone has, and what stands between and behind them.
+const THIRD: &str = "0 r 3 1 point 0 5a\n";
+
+const THIRD_FAILED: &str = "0 r 3 1 fault backing\n";
+
+const BETWEEN: &str = "0 w 0 1 at 0\n0 r 0 1 point 1 aa\n";
+
+const FIFTH: &str = "0 r 5 1 point 1 5a\n";
+
+const FIFTH_FAILED: &str = "0 r 5 1 fault backing\n";
+
+const BEHIND: &str = "0 w 8 1 at 1\nplaces 2\n";
+
 // What the script calls, where nothing fails: the device is only read for sectors that it has alone.
-const CALLS: [Call; 5] = [
-    Call::Read(3),
-    Call::Read(5),
-    Call::Write(0),
-    Call::Write(8),
-    Call::Sync,
+const CALLS: [Call; 6] = [Sync, Read(3, 1), Read(5, 1), Write(0, 1), Write(8, 1), Sync];
+
+// And of the log: the superblock and the record, and both again, a sync and the ids of the slots, as the cache is opened; and
+// as it is closed, a segment, which is then read, block by block, and the record.
+const LOG_CALLS: [Call; 15] = [
+    Read(0, 1),
+    Read(2047, 1),
+    Read(0, 1),
+    Read(2047, 1),
+    Sync,
+    Read(2048, 1),
+    Read(2080, 1),
+    Read(2112, 1),
+    Read(2144, 1),
+    Write(2048, 24),
+    Sync,
+    Read(2056, 8),
+    Read(2064, 8),
+    Write(2047, 1),
+    Sync,
 ];
 
-// What is read of the log: the superblock and the record. A session reads both again, as its cache is opened.
-const OPENINGS: [Call; 4] = [
-    Call::Read(0),
-    Call::Read(2047),
-    Call::Read(0),
-    Call::Read(2047),
-];
+/// A session of the script over a log of four slots, with these calls of the devices.
+fn session<'a>(
+    log_calls: Option<Calls<'a>>,
+    backing_calls: Option<Calls<'a>>,
+    output: &'a [&'a str],
+) -> Case<'a> {
+    Case {
+        words: SERVE,
+        script: SCRIPT,
+        order: 5,
+        slots: 4,
+        log: Failing::Never,
+        backing: Failing::Never,
+        status: 0,
+        output: Output::Exactly(output),
+        lines: 0,
+        places: 0,
+        log_calls,
+        backing_calls,
+        writes: &WRITES,
+        put: Some(0),
+        recorded: Some(0),
+    }
+}
 
-const FAULT: &str = "wblog: backing device failed\n";
+/// So many calls of a list, and none behind them.
+fn exactly(of: &[Call], count: usize) -> Option<Calls> {
+    Some(Calls {
+        of,
+        count,
+        reads_behind: false,
+    })
+}
+
+// The failing call, the calls that are made of the device and of the log, the answers to the reads of sectors 3 and 5, what
+// is printed last, the writes that are put, the record, and the status.
+const BACKING_ROWS: [(Failing, usize, usize, &str, &str, &str, usize, u64, u8); 6] = [
+    (Failing::Never, 6, 15, THIRD, FIFTH, "", 2, 1, 0),
+    (Failing::Once(1), 6, 15, THIRD_FAILED, FIFTH, FAULT, 2, 1, 7),
+    (Failing::Once(2), 6, 15, THIRD, FIFTH_FAILED, FAULT, 2, 1, 7),
+    (Failing::Once(3), 4, 13, THIRD, FIFTH, FAULT, 0, 0, 7),
+    (Failing::Once(4), 5, 13, THIRD, FIFTH, FAULT, 1, 0, 7),
+    (Failing::Once(5), 6, 13, THIRD, FIFTH, FAULT, 2, 0, 7),
+];
 
 #[test]
 fn each_call_of_the_backing_device_fails_in_turn(rt: HostRuntime) -> Result<(), Fail> {
-    let alloc = rt.alloc();
-    let (third, fifth, failed) = ("point 0 5a", "point 1 5a", "fault backing");
-    let rows = [
-        // the failing call, the calls that are made, the answers to the reads of sectors 3 and 5, what is printed last, the
-        // bytes in sectors 0 and 8 at the end, and the status
-        (None, 5, third, fifth, "", (0xaa, 0xbb), 0),
-        (Some(0), 5, failed, fifth, FAULT, (0xaa, 0xbb), 7),
-        (Some(1), 5, third, failed, FAULT, (0xaa, 0xbb), 7),
-        (Some(2), 3, third, fifth, FAULT, (0x5a, 0x5a), 7),
-        (Some(3), 4, third, fifth, FAULT, (0xaa, 0x5a), 7),
-        (Some(4), 5, third, fifth, FAULT, (0xaa, 0xbb), 7),
-    ];
-    for (failing, calls, third, fifth, last, (first, ninth), status) in rows {
-        let log = Brittle::of(alloc, empty_log(alloc, 64)?.into_bytes(), None);
-        let backing = vec![in alloc; 0x5a; 64 * SECTOR_BYTES]?;
-        let backing = Brittle::of(alloc, backing, failing);
-        let (outcome, sink) = serve(alloc, SCRIPT, log, backing)?;
-        assert_eq!(rt; outcome.status, status, "at {failing:?}");
-        let output = format!(in alloc;
-            "0 r 3 1 {third}\n0 w 0 1 at 0\n0 r 0 1 point 1 aa\n0 r 5 1 {fifth}\n0 w 8 1 at 1\nplaces 2\n{last}"
-        )?;
-        assert_eq!(rt; text_of(&sink)?, output.as_str());
-        assert_eq!(rt; outcome.backing.calls().len(), calls);
-        assert!(rt; CALLS.starts_with(outcome.backing.calls()));
-        assert_eq!(rt; outcome.log.calls(), OPENINGS.as_slice());
-        let mut image = [0x5a; 64 * SECTOR_BYTES];
-        image[..SECTOR_BYTES].fill(first);
-        image[8 * SECTOR_BYTES..9 * SECTOR_BYTES].fill(ninth);
-        assert_eq!(rt; outcome.backing.bytes(), image.as_slice());
+    for (backing, calls, log_calls, third, fifth, last, put, recorded, status) in &BACKING_ROWS {
+        let output = [*third, BETWEEN, *fifth, BEHIND, *last];
+        let (log_calls, calls) = (exactly(&LOG_CALLS, *log_calls), exactly(&CALLS, *calls));
+        let case = Case {
+            backing: *backing,
+            status: *status,
+            lines: 5,
+            places: 2,
+            put: Some(*put),
+            recorded: Some(*recorded),
+            ..session(log_calls, calls, &output)
+        };
+        comes(&rt, rt.alloc(), &case)?;
     }
     Ok(())
 }
 
+// The calls that are made of the backing device, the writes that are put, and the record, where a call of the log fails in a
+// session. It is the call of number 9 in the first row.
+const LOG_ROWS: [(usize, usize, u64); 6] = [
+    (3, 0, 0),
+    (3, 0, 0),
+    (3, 0, 0),
+    (3, 0, 0),
+    (6, 2, 0),
+    (6, 2, 1),
+];
+
 #[test]
-fn each_call_of_the_log_device_fails_in_turn(rt: HostRuntime) -> Result<(), Fail> {
-    let alloc = rt.alloc();
-    let rows = [
-        ("serve LOG BACKING", OPENINGS.as_slice()),
-        ("inspect LOG BACKING", &OPENINGS[..2]),
-    ];
-    for (words, calls) in rows {
-        for failing in 0..calls.len() {
-            let log = Brittle::of(alloc, empty_log(alloc, 64)?.into_bytes(), Some(failing));
-            let backing = Brittle::of(alloc, vec![in alloc; 0x5a; 64 * SECTOR_BYTES]?, None);
-            let (outcome, sink) = run(alloc, words, SCRIPT, log, backing)?;
-            assert_eq!(rt; outcome.status, 6, "at {failing} of {words}");
-            assert_eq!(rt; text_of(&sink)?, "wblog: log device failed\n");
-            assert_eq!(rt; outcome.log.calls(), &calls[..failing + 1]);
-            assert!(rt; outcome.backing.calls().is_empty());
-            assert!(rt; outcome.transcripts.is_empty());
-        }
+fn each_call_of_the_log_in_a_session_fails_in_turn(rt: HostRuntime) -> Result<(), Fail> {
+    let output = [THIRD, BETWEEN, FIFTH, BEHIND, LOG_FAULT];
+    for (number, (calls, put, recorded)) in LOG_ROWS.iter().enumerate() {
+        let failing = number.saturating_add(9);
+        let log_calls = exactly(&LOG_CALLS, failing.saturating_add(1));
+        let calls = exactly(&CALLS, *calls);
+        let case = Case {
+            log: Failing::Once(failing as u64),
+            status: 6,
+            lines: 5,
+            places: 2,
+            put: Some(*put),
+            recorded: Some(*recorded),
+            ..session(log_calls, calls, &output)
+        };
+        comes(&rt, rt.alloc(), &case)?;
     }
     Ok(())
 }
 
-// A device that fails from its first call on, and tells what it holds.
+// The calls of the log and of the backing device that fail as the cache is opened, how many calls are made of each, what is
+// printed, and the status.
+const OPENING_ROWS: [(Failing, Failing, usize, usize, &str, u8); 10] = [
+    (Failing::Once(0), Failing::Never, 1, 0, LOG_FAULT, 6),
+    (Failing::Once(1), Failing::Never, 2, 0, LOG_FAULT, 6),
+    (Failing::Once(2), Failing::Never, 3, 0, LOG_FAULT, 6),
+    (Failing::Once(3), Failing::Never, 4, 0, LOG_FAULT, 6),
+    (Failing::Once(4), Failing::Never, 5, 0, LOG_FAULT, 6),
+    (Failing::Never, Failing::Once(0), 5, 1, FAULT, 7),
+    (Failing::Once(5), Failing::Never, 6, 1, LOG_FAULT, 6),
+    (Failing::Once(6), Failing::Never, 7, 1, LOG_FAULT, 6),
+    (Failing::Once(7), Failing::Never, 8, 1, LOG_FAULT, 6),
+    (Failing::Once(8), Failing::Never, 9, 1, LOG_FAULT, 6),
+];
+
 #[test]
-fn a_backing_device_that_stops_ends_the_session(rt: HostRuntime) -> Result<(), Fail> {
-    let alloc = rt.alloc();
-    let stopped = FaultPlan {
-        faults: Vec::new(alloc),
-        stop: Some(0),
-    };
-    let backing = MemoryDevice::of(alloc, vec![in alloc; 0; 64 * SECTOR_BYTES]?, stopped)?;
-    let log = empty_log(alloc, 64)?;
-    let (outcome, sink) = serve(alloc, "clients 1\n0 w 0 1 aa\n", log, backing)?;
-    assert_eq!(rt; outcome.status, 7);
-    let output = "0 w 0 1 at 0\nplaces 1\nwblog: backing device failed\n";
-    assert_eq!(rt; text_of(&sink)?, output);
-    assert!(rt; outcome.backing.bytes().iter().all(|byte| *byte == 0));
+fn no_session_begins_where_a_call_fails_before(rt: HostRuntime) -> Result<(), Fail> {
+    for (log, backing, log_calls, calls, printed, status) in &OPENING_ROWS {
+        let output = [*printed];
+        let (log_calls, calls) = (exactly(&LOG_CALLS, *log_calls), exactly(&CALLS, *calls));
+        let case = Case {
+            log: *log,
+            backing: *backing,
+            status: *status,
+            ..session(log_calls, calls, &output)
+        };
+        comes(&rt, rt.alloc(), &case)?;
+    }
     Ok(())
 }
 
-const FOUR: &str = "\
+// The words, and the call that fails.
+const INSPECT_ROWS: [(&str, usize); 5] = [
+    ("inspect LOG BACKING", 0),
+    ("inspect LOG BACKING", 1),
+    ("inspect LOG BACKING 0", 0),
+    ("inspect LOG BACKING 0", 1),
+    ("inspect LOG BACKING 0", 2),
+];
+
+// What is called as a slot is inspected.
+const INSPECT_CALLS: [Call; 3] = [Read(0, 1), Read(2047, 1), Read(2048, 32)];
+
+/// A run of these words in which this call of the log fails.
+fn inspecting<'a>(words: &'a str, failing: usize, output: &'a [&'a str]) -> Case<'a> {
+    let log_calls = exactly(&INSPECT_CALLS, failing.saturating_add(1));
+    let calls = exactly(&CALLS, 0);
+    Case {
+        words,
+        log: Failing::Once(failing as u64),
+        status: 6,
+        ..session(log_calls, calls, output)
+    }
+}
+
+#[test]
+fn each_call_of_an_inspected_log_fails_in_turn(rt: HostRuntime) -> Result<(), Fail> {
+    for (words, failing) in &INSPECT_ROWS {
+        let output = [LOG_FAULT];
+        comes(&rt, rt.alloc(), &inspecting(words, *failing, &output))?;
+    }
+    Ok(())
+}
+
+const TWO: &str = "clients 1\n0 r 5 1\n0 w 0 1 aa\n";
+
+const READ: &str = "0 r 5 1 point 0 5a\n0 w 0 1 at 0\nplaces 1\n";
+
+const UNREAD: &str = "0 r 5 1 fault backing\n0 w 0 1 at 0\nplaces 1\n";
+
+// The calls from which on the log and the backing device fail, what is printed before the fault, and which of them it names.
+// Where a session begins and the log fails in it too, the log is named.
+const STOPS: [(Failing, Failing, &str, &str, u8); 9] = [
+    (Failing::Never, Failing::From(0), "", FAULT, 7),
+    (Failing::From(4), Failing::From(0), "", LOG_FAULT, 6),
+    (Failing::From(5), Failing::From(0), "", FAULT, 7),
+    (Failing::From(8), Failing::From(1), "", LOG_FAULT, 6),
+    (Failing::From(9), Failing::Never, READ, LOG_FAULT, 6),
+    (Failing::From(9), Failing::From(1), UNREAD, LOG_FAULT, 6),
+    (Failing::Never, Failing::From(1), UNREAD, FAULT, 7),
+    (Failing::Never, Failing::From(2), READ, FAULT, 7),
+    (Failing::From(12), Failing::From(2), READ, FAULT, 7),
+];
+
+#[test]
+fn devices_that_stop_end_the_session(rt: HostRuntime) -> Result<(), Fail> {
+    for (log, backing, served, fault, status) in &STOPS {
+        let began = !served.is_empty();
+        let output = [*served, *fault];
+        let case = Case {
+            script: TWO,
+            log: *log,
+            backing: *backing,
+            status: *status,
+            lines: if began { 2 } else { 0 },
+            places: u64::from(began),
+            ..session(None, None, &output)
+        };
+        comes(&rt, rt.alloc(), &case)?;
+    }
+    Ok(())
+}
+
+const FIVE: &str = "\
 clients 1
 0 w 0 1 01
 0 w 8 1 02
 0 w 16 1 03
 0 w 24 1 04
+0 w 32 1 05
+0 r 0 1
 0 r 8 1
+0 r 24 1
+0 r 32 1
 ";
 
-// Two segments of one place are kept in memory. What is in them is still read.
-const STOPPED: &str = "\
+// Segments have one place: two are kept in memory, and the log has two slots. The device is first written when all are full.
+const NO_BACKING: &str = "\
 0 w 0 1 at 0
 0 w 8 1 at 1
-0 w 16 1 down backing
-0 w 24 1 down backing
-0 r 8 1 point 2 02
-places 2
+0 w 16 1 at 2
+0 w 24 1 at 3
+0 w 32 1 down backing
+0 r 0 1 point 4 01
+0 r 8 1 point 4 02
+0 r 24 1 point 4 04
+0 r 32 1 fault backing
+places 4
 wblog: backing device failed
 ";
 
+// The log fails in its first segment, in its second, and in the sync behind them.
+const NO_SLOT: &str = "\
+0 w 0 1 at 0
+0 w 8 1 at 1
+0 w 16 1 down log
+0 w 24 1 down log
+0 w 32 1 down log
+0 r 0 1 point 2 01
+0 r 8 1 point 2 02
+0 r 24 1 point 2 5a
+0 r 32 1 point 2 5a
+places 2
+wblog: log device failed
+";
+
+const ONE_SLOT: &str = "\
+0 w 0 1 at 0
+0 w 8 1 at 1
+0 w 16 1 at 2
+0 w 24 1 down log
+0 w 32 1 down log
+0 r 0 1 fault log
+0 r 8 1 point 3 02
+0 r 24 1 point 3 5a
+0 r 32 1 point 3 5a
+places 3
+wblog: log device failed
+";
+
+const NO_SYNC: &str = "\
+0 w 0 1 at 0
+0 w 8 1 at 1
+0 w 16 1 at 2
+0 w 24 1 at 3
+0 w 32 1 down log
+0 r 0 1 fault log
+0 r 8 1 fault log
+0 r 24 1 point 4 04
+0 r 32 1 point 4 5a
+places 4
+wblog: log device failed
+";
+
+// The calls from which on the log and the backing device fail, the status, what is printed, and the places. The cache is
+// opened by seven calls of the log and one of the backing device.
+const FULL: [(Failing, Failing, u8, &str, u64); 4] = [
+    (Failing::Never, Failing::From(1), 7, NO_BACKING, 4),
+    (Failing::From(7), Failing::Never, 6, NO_SLOT, 2),
+    (Failing::From(8), Failing::Never, 6, ONE_SLOT, 3),
+    (Failing::From(9), Failing::Never, 6, NO_SYNC, 4),
+];
+
 #[test]
 fn a_write_that_finds_no_room_is_stopped(rt: HostRuntime) -> Result<(), Fail> {
-    let alloc = rt.alloc();
-    let stopped = FaultPlan {
-        faults: Vec::new(alloc),
-        stop: Some(0),
-    };
-    let backing = MemoryDevice::of(alloc, vec![in alloc; 0x5a; 64 * SECTOR_BYTES]?, stopped)?;
-    let log = recorded_log(alloc, 4, 2, 0)?;
-    let (outcome, sink) = serve(alloc, FOUR, log, backing)?;
-    assert_eq!(rt; outcome.status, 7);
-    assert_eq!(rt; text_of(&sink)?, STOPPED);
-    assert_eq!(rt; outcome.places, 2);
-    assert!(rt; outcome.backing.bytes().iter().all(|byte| *byte == 0x5a));
+    for (log, backing, status, printed, places) in &FULL {
+        let output = [*printed];
+        let case = Case {
+            script: FIVE,
+            order: 4,
+            slots: 2,
+            log: *log,
+            backing: *backing,
+            status: *status,
+            lines: 9,
+            places: *places,
+            ..session(None, None, &output)
+        };
+        comes(&rt, rt.alloc(), &case)?;
+    }
     Ok(())
 }

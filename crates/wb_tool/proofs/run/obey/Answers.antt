@@ -3,7 +3,7 @@ use Rattle.std.specs.String.{string_bytes}
 use Rattle.wb_tool.specs.Commands.{IsForm}
 use Rattle.wb_geometry.proofs.Moments.{uncalled}
 use Rattle.wb_tool.specs.declared.command.Command.TheVariants.{Format, InspectSlot}
-use Rattle.wb_tool.proofs.Accounts.{accounted, usage_accounted, no_session, untouched}
+use Rattle.wb_tool.proofs.Accounts.{accounted, usage_accounted, untouched}
 use Rattle.wb_tool.proofs.Formatted.{format_ends}
 use Rattle.wb_tool.proofs.run.obey.Goals as goal
 
@@ -14,7 +14,8 @@ returns-in-None g c =
     (usage_accounted _ _ c.in-None.ensures (record {
       status = refl;
       told = c.tell.ensures;
-      no_session = no_session _ _ _ _ _ _ _ _ refl refl;
+      no_session = record { transcripts = refl; places = refl };
+      backing = uncalled _;
       unread = untouched _ _;
       log = uncalled _;
     }))
@@ -24,7 +25,8 @@ returns-in-Some-Format g c =
     let ended = c.without_session-in-Some-Format.ensures in
     rw (ended.log, ended.backing, ended.status, ended.transcripts, ended.places)
     (accounted (Format c.in-Some-Format.numbers) _ _ (subst (λ command. IsForm command (map string_bytes c.args.words.now)) c.in-Some-Format.field-0-is c.in-Some-Format.ensures) (record {
-      no_session = no_session _ _ _ _ _ _ _ _ refl refl;
+      no_session = record { transcripts = refl; places = refl };
+      backing = uncalled _;
       unread = untouched _ _;
       ends = format_ends _ _ _ _ _ _ _ _ c.sectors.ensures refl c.format_log-status.ensures;
     }))
@@ -34,7 +36,8 @@ returns-in-Some-InspectSlot g c =
     let ended = c.without_session-in-Some-InspectSlot.ensures in
     rw (ended.log, ended.backing, ended.status, ended.transcripts, ended.places)
     (accounted (InspectSlot c.in-Some-InspectSlot.slot) _ _ (subst (λ command. IsForm command (map string_bytes c.args.words.now)) c.in-Some-InspectSlot.field-0-is c.in-Some-InspectSlot.ensures) (record {
-      no_session = no_session _ _ _ _ _ _ _ _ refl refl;
+      no_session = record { transcripts = refl; places = refl };
+      backing = uncalled _;
       unread = untouched _ _;
       ends = c.inspect_slot-status.ensures;
     }))

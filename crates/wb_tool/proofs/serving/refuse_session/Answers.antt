@@ -13,3 +13,12 @@ returns-in-Open-Backing g c =
     let why = c.in-Open-Backing in
     subst (λ (stop : ServeStop). EndsUnserved stop (lent (taken c.args.sink.now) (taken new) (faults c.args.sink.now) (faults new)) c.refuse_backing.result)
     (sym (why.is ∙ ap Open (rw why.is at why.field-0-is))) c.refuse_backing.ensures
+
+pub returns-in-Open-Stray : goal.returns-in-Open-Stray
+returns-in-Open-Stray g c =
+    let taken = g.K.Sink.taken in
+    let faults = g.K.Sink.faults in
+    let new = c.refuse_stray.new.sink in
+    let why = c.in-Open-Stray in
+    subst (λ (stop : ServeStop). EndsUnserved stop (lent (taken c.args.sink.now) (taken new) (faults c.args.sink.now) (faults new)) c.refuse_stray.result)
+    (sym (why.is ∙ ap Open (rw why.is at why.field-0-is))) c.refuse_stray.ensures

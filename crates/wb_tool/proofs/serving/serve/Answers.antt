@@ -1,6 +1,6 @@
 use Rattle.std.proofs.Common.{arith}
 use Rattle.wb_tool.proofs.Accounts.{read_kept}
-use Rattle.wb_tool.proofs.Moved.{serve_account}
+use Rattle.wb_tool.proofs.Earlier.{serve_account}
 use Rattle.wb_tool.proofs.Unserved.{log_unserved, ids_unserved, backing_unserved}
 use Rattle.wb_tool.proofs.serving.serve.Goals as goal
 

@@ -1,14 +1,15 @@
-use Rattle.wb_tool.proofs.Sessions.{session_leaves, unserved_leaves}
+use Rattle.wb_tool.proofs.Sessions.{session_leaves}
+use Rattle.wb_tool.proofs.Stops.{unserved_leaves}
 use Rattle.wb_tool.proofs.serving.serve_script.Goals as goal
 
 pub returns-in-Ok : goal.returns-in-Ok
 returns-in-Ok g c =
     let served = rw c.in-Ok.is at c.serve_plain-log.ensures.session in
-    session_leaves _ _ _ _ _ _ _ _ _ _ _ _ _ served.1 c.serve_plain-log.ensures.log c.report-status.ensures
+    session_leaves _ _ _ _ _ _ _ _ _ _ _ _ _ served.1 c.report-status.ensures
 
 pub returns-in-Err : goal.returns-in-Err
 returns-in-Err g c =
     let ended = c.without_session.ensures in
     let serve = c.serve_plain-log.ensures in
     rw (ended.log, ended.backing, ended.status, ended.transcripts, ended.places)
-    (unserved_leaves _ _ _ _ _ _ _ c.in-Err.stop (rw c.in-Err.is at serve.unserved) c.refuse_session-status.ensures serve.log (rw c.in-Err.is at serve.log_cause))
+    (unserved_leaves _ _ _ _ _ _ _ c.in-Err.stop c.serve_plain-log.result.answer c.in-Err.is (rw c.in-Err.is at serve.unserved) c.refuse_session-status.ensures serve.log_cause serve.backing_cause)

@@ -2,7 +2,7 @@ use Rattle.std.proofs.Common.{Err, ap, ◌∙◌}
 use Rattle.wb_script.proofs.Validity.{valid_script}
 use Rattle.wb_tool.proofs.Servings.{took_same}
 use Rattle.wb_tool.proofs.Accounts.{refuses, spells, script_at_end}
-use Rattle.wb_tool.proofs.Sessions.{source_leaves, refusal_leaves, script_leaves}
+use Rattle.wb_tool.proofs.Sources.{source_leaves, refusal_leaves, script_leaves}
 use Rattle.wb_tool.proofs.serving.serve_source.Goals as goal
 
 pub serve_script-requires : goal.serve_script-requires

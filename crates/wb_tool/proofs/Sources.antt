@@ -1,0 +1,105 @@
+-- How `serve` ends from the source on.
+use Rattle.std.proofs.Common.{◌≡◌, ◌≢◌, ◌⊎◌, List, [], ℕ, refl, arith, inl, inr}
+use Rattle.wb_geometry.specs.Device.{State}
+use Rattle.wb_script.specs.Content.{ScriptContent}
+use Rattle.wb_script.specs.declared.transcript.Line.{Line}
+use Rattle.std.specs.Io.KnownBytes.{IsAtEnd}
+use Rattle.wb_geometry.proofs.Moments.{only_read, uncalled}
+use Rattle.wb_script.specs.declared.refusal.Cause.{Cause}
+use Rattle.wb_tool.specs.Run.{Lent, Run, run_of, no_source, HasFailed, HasNotFailed, Spells, Refuses, Took}
+use Rattle.wb_tool.specs.Reads.{IsRead}
+use Rattle.wb_tool.specs.Texts.{source_line, refused_line}
+use Rattle.wb_geometry.specs.declared.which.Which.{Which}
+use Rattle.wb_tool.specs.Serve.{IsUnbegun, EndsByFault, IsStopped, IsLeftBy, IsLeftFrom}
+use Rattle.wb_tool.specs.Stages.{Leaves, EndsReading, EndsServing}
+use Rattle.wb_tool.proofs.Accounts.{faults_kept}
+
+-- nothing was done with the devices, and the status is of no fault
+quiet_leaves : (Ends Wants : Run → Type 0) (source sink : Lent) (log backing : State) (status : ℕ) → status ≢ 6 → status ≢ 7 → status ≢ 1
+    → (IsUnbegun (run_of source sink log log backing backing status [] 0) → Ends (run_of source sink log log backing backing status [] 0))
+    → Leaves Ends Wants (run_of source sink log log backing backing status [] 0)
+quiet_leaves Ends Wants source sink log backing status not_6 not_7 not_1 ends = record {
+  log_faults = λ _. faults_kept status log.faults log.faults not_6 refl;
+  backing_faults = λ _ _. record { later = omega arith; failed = λ seven. absurd (not_7 seven); kept = λ _. refl };
+  wanting = λ one. absurd (not_1 one);
+  ends = inr (ends (record { no_session = record { transcripts = refl; places = refl }; backing = uncalled backing; log = only_read log }));
+}
+
+-- the source failed
+pub source_leaves : (sectors : ℕ) (source sink : Lent) (log backing : State) → HasFailed source → Took sink source_line
+    → Leaves (EndsReading sectors) (IsLeftFrom sectors) (run_of source sink log log backing backing 4 [] 0)
+source_leaves sectors source sink log backing failed told =
+    quiet_leaves (EndsReading sectors) (IsLeftFrom sectors) source sink log backing 4 (λ six. omega arith) (λ seven. omega arith) (λ one. omega arith)
+    (λ unbegun. inl (unbegun, inl (record { failed = failed; ended = refl; told = told })))
+
+-- the script is refused
+pub refusal_leaves : (sectors : ℕ) (source sink : Lent) (log backing : State) → HasNotFailed source → (line : ℕ) (cause : Cause) → Refuses sectors source line cause
+    → Took sink (refused_line line cause) → (bytes : List ℕ) → IsRead source.before source.after bytes
+    → Leaves (EndsReading sectors) (IsLeftFrom sectors) (run_of source sink log log backing backing 3 [] 0)
+refusal_leaves sectors source sink log backing kept line cause why told bytes read =
+    quiet_leaves (EndsReading sectors) (IsLeftFrom sectors) source sink log backing 3 (λ six. omega arith) (λ seven. omega arith) (λ one. omega arith)
+    (λ unbegun. inl (
+      unbegun,
+      inr (record {
+        kept = kept;
+        bytes = bytes;
+        read = read.taken;
+        few = read.few;
+        line = line;
+        cause = cause;
+        refused = why;
+        ended = refl;
+        told = told;
+      }),
+    ))
+
+-- the ends of a run that is lent a source beside
+serving_beside : (script : ScriptContent) (source sink : Lent) (log_before log_after backing_before backing_after : State) (status : ℕ) (transcripts : List (List Line)) (places : ℕ)
+    → EndsServing script (run_of no_source sink log_before log_after backing_before backing_after status transcripts places)
+    → EndsServing script (run_of source sink log_before log_after backing_before backing_after status transcripts places)
+serving_beside script source sink log_before log_after backing_before backing_after status transcripts places (inl (unbegun, unopened)) =
+    let none = unbegun.no_session in
+    inl (record { no_session = record { transcripts = none.transcripts; places = none.places }; backing = unbegun.backing; log = unbegun.log }, unopened)
+serving_beside script source sink log_before log_after backing_before backing_after status transcripts places (inr (inl (broken, stopped))) =
+    inr (inl (record { no_session = record { transcripts = broken.no_session.transcripts; places = broken.no_session.places }; log = broken.log; backing = broken.backing }, stopped_beside stopped))
+  where
+    run : Run
+    run = run_of no_source sink log_before log_after backing_before backing_after status transcripts places
+
+    beside : Run
+    beside = run_of source sink log_before log_after backing_before backing_after status transcripts places
+
+    fault_beside : (device : Which) (known : ℕ) → EndsByFault device known run → EndsByFault device known beside
+    fault_beside device known fault = record { found = fault.found; may = fault.may; ended = fault.ended; told = fault.told }
+
+    stopped_beside : IsStopped script.sectors run → IsStopped script.sectors beside
+    stopped_beside (inl stray) = inl (record { found = stray.found; may = stray.may; slot = stray.slot; id = stray.id; stray = stray.stray; ended = stray.ended; told = stray.told })
+    stopped_beside (inr (inl fault)) = inr (inl (fault_beside _ 6 fault))
+    stopped_beside (inr (inr (inl fault))) = inr (inr (inl (fault_beside _ 7 fault)))
+    stopped_beside (inr (inr (inr change))) = inr (inr (inr (record { found = change.found; super = change.super; fewer = change.fewer; ended = change.ended; told = change.told })))
+serving_beside script source sink log_before log_after backing_before backing_after status transcripts places (inr (inr served)) = inr (inr served)
+
+scripted_ends : (sectors : ℕ) (script : ScriptContent) (source sink : Lent) (log_before log_after backing_before backing_after : State) (status : ℕ) (transcripts : List (List Line)) (places : ℕ)
+    → HasNotFailed source → Spells sectors source script → IsAtEnd source.after
+    → (status ≡ 1) ⊎ EndsServing script (run_of no_source sink log_before log_after backing_before backing_after status transcripts places)
+    → (status ≡ 1) ⊎ EndsReading sectors (run_of source sink log_before log_after backing_before backing_after status transcripts places)
+scripted_ends sectors script source sink log_before log_after backing_before backing_after status transcripts places kept spelled at_end (inl one) = inl one
+scripted_ends sectors script source sink log_before log_after backing_before backing_after status transcripts places kept spelled at_end (inr ends) = inr (inr (record {
+  kept = kept;
+  script = script;
+  spelled = spelled;
+  at_end = at_end;
+  ends = serving_beside script source sink log_before log_after backing_before backing_after status transcripts places ends;
+}))
+
+-- the source held a script
+pub script_leaves : (sectors : ℕ) (script : ScriptContent) (source sink : Lent) (log_before log_after backing_before backing_after : State) (status : ℕ) (transcripts : List (List Line)) (places : ℕ)
+    → HasNotFailed source → Spells sectors source script → IsAtEnd source.after
+    → Leaves (EndsServing script) (IsLeftBy script) (run_of no_source sink log_before log_after backing_before backing_after status transcripts places)
+    → Leaves (EndsReading sectors) (IsLeftFrom sectors) (run_of source sink log_before log_after backing_before backing_after status transcripts places)
+script_leaves sectors script source sink log_before log_after backing_before backing_after status transcripts places kept spelled at_end leaves = record {
+  log_faults = leaves.log_faults;
+  backing_faults = leaves.backing_faults;
+  wanting = λ one. inr (script, spelled, leaves.wanting one);
+  ends = scripted_ends sectors script source sink log_before log_after backing_before backing_after status transcripts places kept spelled at_end leaves.ends;
+}

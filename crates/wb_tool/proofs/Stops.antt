@@ -1,0 +1,213 @@
+-- How the last stage of `serve` ends without a session.
+use Rattle.std.proofs.Common.{◌≡◌, ◌≢◌, ◌⊎◌, [], ℕ, refl, sym, ap, subst, ◌∙◌, arith, inl, inr, Result, Err}
+use Rattle.wb_geometry.specs.Device.{State, CountsFaultsWhere}
+use Rattle.wb_super.specs.Found as super
+use Rattle.wb_super.specs.declared.reading.SuperRefused.{SuperRefused}
+use Rattle.wb_super.specs.declared.reading.SuperRefused.TheVariants as refused
+use Rattle.wb_script.specs.Content.{ScriptContent}
+use Rattle.wb_engine.specs.declared.opening.OpenCause.TheVariants as opening
+use Rattle.wb_serve.specs.Session.{IsUntouched, IsUnserved, SaysLogFault, SaysBackingFault}
+use Rattle.wb_serve.specs.declared.serving.Session.{Session}
+use Rattle.wb_serve.specs.declared.serving.ServeStop.{ServeStop}
+use Rattle.wb_serve.specs.declared.serving.ServeStop.TheVariants as stop
+use Rattle.wb_tool.specs.Run.{Lent, Run, run_of, no_source, Took}
+use Rattle.wb_tool.specs.Texts.{super_status, super_line, small_line, spent_record_line, changed_line, stray_line, failed_line}
+use Rattle.wb_geometry.specs.declared.which.Which.TheVariants.{Log, Backing}
+use Rattle.wb_tool.specs.Serve.{IsUnbegun, IsBrokenOff, IsLeftBy}
+use Rattle.wb_tool.specs.Stages.{Leaves, EndsServing, EndsUnserved}
+use Rattle.wb_tool.proofs.Sessions.{counts_same}
+
+super_not_7 : (cause : SuperRefused) → super_status cause ≢ 7
+super_not_7 (refused.Small needs has) seven = absurd (omega arith)
+super_not_7 refused.Fault seven = absurd (omega arith)
+super_not_7 refused.Magic seven = absurd (omega arith)
+super_not_7 (refused.Version found) seven = absurd (omega arith)
+super_not_7 (refused.Sum stored computed) seven = absurd (omega arith)
+super_not_7 refused.Geometry seven = absurd (omega arith)
+super_not_7 (refused.Record found) seven = absurd (omega arith)
+
+pub super_at_7 : (status : ℕ) (cause : SuperRefused) (P : Type 0) → (status ≡ 1) ⊎ ((status ≡ super_status cause) × P) → status ≢ 1 → status ≡ 7 → ⊥
+super_at_7 status cause P (inl one) some seven = some one
+super_at_7 status cause P (inr (ended, told)) some seven = super_not_7 cause (sym ended ∙ seven)
+
+-- the superblock's cause tells of a fault by its status alone
+super_at_6 : (cause : SuperRefused) → super_status cause ≡ 6 → cause ≡ refused.Fault
+super_at_6 (refused.Small needs has) six = absurd (omega arith)
+super_at_6 refused.Fault six = refl
+super_at_6 refused.Magic six = absurd (omega arith)
+super_at_6 (refused.Version found) six = absurd (omega arith)
+super_at_6 (refused.Sum stored computed) six = absurd (omega arith)
+super_at_6 refused.Geometry six = absurd (omega arith)
+super_at_6 (refused.Record found) six = absurd (omega arith)
+
+-- A cause that has a status of its own. The faults are counted of the log where this is 6, and of the backing device where
+-- it is 7.
+told_leaves : (Ends Wants : Run → Type 0) (run : Run) (known : ℕ) (LogFailed BackingFailed P : Type 0)
+    → CountsFaultsWhere LogFailed run.log_before.faults run.log_after.faults → CountsFaultsWhere BackingFailed run.backing_before.faults run.backing_after.faults
+    → (LogFailed → known ≡ 6) → (known ≡ 6 → LogFailed) → (BackingFailed → known ≡ 7) → (known ≡ 7 → BackingFailed)
+    → Wants run → (run.status ≡ 1) ⊎ ((run.status ≡ known) × P) → (run.status ≡ known → P → Ends run) → Leaves Ends Wants run
+told_leaves Ends Wants run known LogFailed BackingFailed P log backing to_6 from_6 to_7 from_7 wants (inl one) ends =
+    record { log_faults = λ some. absurd (some one); backing_faults = λ some. absurd (some one); wanting = λ is. wants; ends = inl one }
+told_leaves Ends Wants run known LogFailed BackingFailed P log backing to_6 from_6 to_7 from_7 wants (inr (ended, told)) ends = record {
+  log_faults = λ some. counts_same LogFailed (run.status ≡ 6) run.log_before.faults run.log_after.faults (λ failed. ended ∙ to_6 failed) (λ six. from_6 (sym ended ∙ six)) log;
+  backing_faults = λ some other. counts_same BackingFailed (run.status ≡ 7) run.backing_before.faults run.backing_after.faults (λ failed. ended ∙ to_7 failed) (λ seven. from_7 (sym ended ∙ seven)) backing;
+  wanting = λ is. wants;
+  ends = inr (ends ended told);
+}
+
+-- the faults are counted as the cause says, where it isn't want of memory
+record CountsStop (log_before log_after backing_before backing_after : State) (why : ServeStop) : Type 0 where
+  log : why ≢ stop.Open opening.Memory → CountsFaultsWhere (SaysLogFault (Err why)) log_before.faults log_after.faults
+  backing : why ≢ stop.Open opening.Memory → CountsFaultsWhere (SaysBackingFault (Err why)) backing_before.faults backing_after.faults
+
+-- a run that ended so
+abbrev Unserved : (sink : Lent) (log_before log_after backing_before backing_after : State) (status : ℕ) → Run
+Unserved sink log_before log_after backing_before backing_after status = run_of no_source sink log_before log_after backing_before backing_after status [] 0
+
+no_log_fault : (why : ServeStop) → why ≢ stop.Open (opening.Super refused.Fault) → why ≢ stop.Open opening.LogFault → SaysLogFault (Err why) → ⊥
+no_log_fault why not_super not_log (inl is) = not_super is
+no_log_fault why not_super not_log (inr is) = not_log is
+
+-- a cause that is neither of the two faults
+quiet_stop : (script : ScriptContent) (sink : Lent) (log_before log_after backing_before backing_after : State) (status known : ℕ) (why : ServeStop) (P : Type 0)
+    → CountsStop log_before log_after backing_before backing_after why → why ≢ stop.Open opening.Memory → why ≢ stop.Open (opening.Super refused.Fault) → why ≢ stop.Open opening.LogFault → why ≢ stop.Open opening.BackingFault → known ≢ 6 → known ≢ 7
+    → IsLeftBy script (Unserved sink log_before log_after backing_before backing_after status)
+    → (status ≡ 1) ⊎ ((status ≡ known) × P) → (status ≡ known → P → EndsServing script (Unserved sink log_before log_after backing_before backing_after status))
+    → Leaves (EndsServing script) (IsLeftBy script) (Unserved sink log_before log_after backing_before backing_after status)
+quiet_stop script sink log_before log_after backing_before backing_after status known why P counts other not_super not_log not_backing not_6 not_7 left told ends =
+    told_leaves (EndsServing script) (IsLeftBy script) (Unserved sink log_before log_after backing_before backing_after status) known (SaysLogFault (Err why)) (SaysBackingFault (Err why)) P
+    (counts.log other) (counts.backing other) (λ failed. absurd (no_log_fault why not_super not_log failed)) (λ six. absurd (not_6 six)) (λ failed. absurd (not_backing failed)) (λ seven. absurd (not_7 seven)) left told ends
+
+-- a cause before either device is synced, and one behind that
+early_run : (early : Type 0) (sink : Lent) (log_before log_after backing_before backing_after : State) (status : ℕ) → early → IsUntouched early log_before log_after backing_before backing_after
+    → IsUnbegun (Unserved sink log_before log_after backing_before backing_after status)
+early_run early sink log_before log_after backing_before backing_after status is untouched =
+    record { no_session = record { transcripts = refl; places = refl }; backing = untouched.early_backing is; log = untouched.early_log is }
+
+late_run : (early : Type 0) (sink : Lent) (log_before log_after backing_before backing_after : State) (status : ℕ) → IsUntouched early log_before log_after backing_before backing_after
+    → IsBrokenOff (Unserved sink log_before log_after backing_before backing_after status)
+late_run early sink log_before log_after backing_before backing_after status untouched =
+    record { no_session = record { transcripts = refl; places = refl }; log = untouched.log; backing = untouched.backing }
+
+-- the superblock is refused at the second reading
+super_leaves : (script : ScriptContent) (sink : Lent) (log_before log_after backing_before backing_after : State) (status : ℕ) (cause : SuperRefused)
+    → CountsStop log_before log_after backing_before backing_after (stop.Open (opening.Super cause)) → super.Refuses log_before cause
+    → IsUnbegun (Unserved sink log_before log_after backing_before backing_after status)
+    → IsLeftBy script (Unserved sink log_before log_after backing_before backing_after status)
+    → (status ≡ 1) ⊎ ((status ≡ super_status cause) × Took sink (super_line cause))
+    → Leaves (EndsServing script) (IsLeftBy script) (Unserved sink log_before log_after backing_before backing_after status)
+super_leaves script sink log_before log_after backing_before backing_after status cause counts why unbegun left told =
+    let LogFailed : Type 0 = SaysLogFault (Err (stop.Open (opening.Super cause))) in
+    let BackingFailed : Type 0 = SaysBackingFault (Err (stop.Open (opening.Super cause))) in
+    told_leaves (EndsServing script) (IsLeftBy script) (Unserved sink log_before log_after backing_before backing_after status) (super_status cause) LogFailed BackingFailed (Took sink (super_line cause)) (counts.log (λ e. cc)) (counts.backing (λ e. cc))
+    (λ failed. elim failed [
+      | inl e ↦ let fault : cause ≡ refused.Fault = cc in ap super_status fault
+      | inr e ↦ cc
+    ])
+    (λ six. inl (ap (λ c. stop.Open (opening.Super c)) (super_at_6 cause six)))
+    (λ e. cc)
+    (λ seven. absurd (super_not_7 cause seven))
+    left told (λ ended took. inl (unbegun, inl (record { cause = cause; why = why; ended = ended; told = took })))
+
+stopped_leaves : (script : ScriptContent) (sink : Lent) (log_before log_after backing_before backing_after : State) (status : ℕ) (why : ServeStop)
+    → CountsStop log_before log_after backing_before backing_after why → IsUnserved script log_before log_after backing_before backing_after why → EndsUnserved why sink status
+    → Leaves (EndsServing script) (IsLeftBy script) (Unserved sink log_before log_after backing_before backing_after status)
+stopped_leaves script sink log_before log_after backing_before backing_after status (stop.Open (opening.Super cause)) counts (inl memory) told = cc
+stopped_leaves script sink log_before log_after backing_before backing_after status (stop.Open (opening.Super cause)) counts (inr (why, untouched)) told =
+    super_leaves script sink log_before log_after backing_before backing_after status cause counts why
+    (early_run _ sink log_before log_after backing_before backing_after status tt untouched) (inl (untouched.log, untouched.backing)) told.0
+stopped_leaves script sink log_before log_after backing_before backing_after status (stop.Open (opening.IdsSpent recorded)) counts (inl memory) told = cc
+stopped_leaves script sink log_before log_after backing_before backing_after status (stop.Open (opening.IdsSpent recorded)) counts (inr ((found, super, same, spent), untouched)) told =
+    quiet_stop script sink log_before log_after backing_before backing_after status 10 (stop.Open (opening.IdsSpent recorded)) (Took sink (spent_record_line recorded))
+    counts (λ e. cc) (λ e. cc) (λ e. cc) (λ e. cc) (λ e. omega arith) (λ e. omega arith) (inl (untouched.log, untouched.backing)) told
+    (λ ended took. inl (
+      early_run _ sink log_before log_after backing_before backing_after status tt untouched,
+      inr (inl (
+        found,
+        super,
+        record {
+          spent = omega (arith, same, spent);
+          ended = ended;
+          told = subst (λ (n : ℕ). Took sink (spent_record_line n)) (sym same) took;
+        },
+      )),
+    ))
+stopped_leaves script sink log_before log_after backing_before backing_after status (stop.Open (opening.Backing needs has)) counts (inl memory) told = cc
+stopped_leaves script sink log_before log_after backing_before backing_after status (stop.Open (opening.Backing needs has)) counts (inr ((found, super, ids, needs_are, has_is, few), untouched)) told =
+    quiet_stop script sink log_before log_after backing_before backing_after status 9 (stop.Open (opening.Backing needs has)) (Took sink (small_line Backing has needs))
+    counts (λ e. cc) (λ e. cc) (λ e. cc) (λ e. cc) (λ e. omega arith) (λ e. omega arith) (inl (untouched.log, untouched.backing)) told
+    (λ ended took. inl (
+      early_run _ sink log_before log_after backing_before backing_after status tt untouched,
+      inr (inr (
+        found,
+        super,
+        ids,
+        record {
+          few = omega (arith, needs_are, few);
+          ended = ended;
+          told = subst (λ (n : ℕ). Took sink (small_line Backing backing_before.sectors n)) needs_are (subst (λ (n : ℕ). Took sink (small_line Backing n needs)) has_is took);
+        },
+      )),
+    ))
+stopped_leaves script sink log_before log_after backing_before backing_after status (stop.Open opening.Memory) counts unserved told = record {
+  log_faults = λ some. absurd (some told);
+  backing_faults = λ some. absurd (some told);
+  wanting = λ is. elim unserved [
+    | inl cut ↦ inr cut.1
+    | inr early ↦ inl (early.1.log, early.1.backing)
+  ];
+  ends = inl told;
+}
+stopped_leaves script sink log_before log_after backing_before backing_after status (stop.Open opening.LogFault) counts (inl memory) told = cc
+stopped_leaves script sink log_before log_after backing_before backing_after status (stop.Open opening.LogFault) counts (inr ((found, may), untouched)) told =
+    told_leaves (EndsServing script) (IsLeftBy script) (Unserved sink log_before log_after backing_before backing_after status) 6
+    (SaysLogFault (Err (stop.Open opening.LogFault))) (SaysBackingFault (Err (stop.Open opening.LogFault))) (Took sink (failed_line Log))
+    (counts.log (λ e. cc)) (counts.backing (λ e. cc)) (λ e. refl) (λ e. inr refl) (λ e. cc) (λ e. absurd (omega arith)) (inl (untouched.log, untouched.backing)) (inr told)
+    (λ ended took. inr (inl (
+      late_run _ sink log_before log_after backing_before backing_after status untouched,
+      inr (inl (record { found = found; may = may; ended = ended; told = took })),
+    )))
+stopped_leaves script sink log_before log_after backing_before backing_after status (stop.Open opening.BackingFault) counts (inl memory) told = cc
+stopped_leaves script sink log_before log_after backing_before backing_after status (stop.Open opening.BackingFault) counts (inr ((found, may), untouched)) told =
+    told_leaves (EndsServing script) (IsLeftBy script) (Unserved sink log_before log_after backing_before backing_after status) 7
+    (SaysLogFault (Err (stop.Open opening.BackingFault))) (SaysBackingFault (Err (stop.Open opening.BackingFault))) (Took sink (failed_line Backing))
+    (counts.log (λ e. cc)) (counts.backing (λ e. cc)) (λ e. absurd (no_log_fault (stop.Open opening.BackingFault) (λ e. cc) (λ e. cc) e)) (λ e. absurd (omega arith)) (λ e. refl) (λ e. refl) (inl (untouched.log, untouched.backing)) (inr told)
+    (λ ended took. inr (inl (
+      late_run _ sink log_before log_after backing_before backing_after status untouched,
+      inr (inr (inl (record { found = found; may = may; ended = ended; told = took }))),
+    )))
+stopped_leaves script sink log_before log_after backing_before backing_after status (stop.Open (opening.Stray slot id)) counts (inl memory) told = cc
+stopped_leaves script sink log_before log_after backing_before backing_after status (stop.Open (opening.Stray slot id)) counts (inr ((found, may, stray), untouched)) told =
+    quiet_stop script sink log_before log_after backing_before backing_after status 8 (stop.Open (opening.Stray slot id)) (Took sink (stray_line slot id))
+    counts (λ e. cc) (λ e. cc) (λ e. cc) (λ e. cc) (λ e. omega arith) (λ e. omega arith) (inl (untouched.log, untouched.backing)) told
+    (λ ended took. inr (inl (
+      late_run _ sink log_before log_after backing_before backing_after status untouched,
+      inl (record { found = found; may = may; slot = slot; id = id; stray = stray; ended = ended; told = took }),
+    )))
+stopped_leaves script sink log_before log_after backing_before backing_after status (stop.Changed parsed found) counts (parsed_is, fewer, (sup, may, none, found_is), untouched) told =
+    quiet_stop script sink log_before log_after backing_before backing_after status 8 (stop.Changed parsed found) (Took sink (changed_line parsed found))
+    counts (λ e. cc) (λ e. cc) (λ e. cc) (λ e. cc) (λ e. omega arith) (λ e. omega arith) (inl (untouched.log, untouched.backing)) told
+    (λ ended took. inr (inl (
+      late_run _ sink log_before log_after backing_before backing_after status untouched,
+      inr (inr (inr (record {
+        found = sup;
+        super = may.super;
+        fewer = omega (arith, parsed_is, found_is, fewer);
+        ended = ended;
+        told = subst (λ (n : ℕ). Took sink (changed_line n sup.geometry.backing_sectors)) parsed_is (subst (λ (n : ℕ). Took sink (changed_line parsed n)) found_is took);
+      }))),
+    )))
+
+not_memory : (answer : Result Session ServeStop) (why : ServeStop) → answer ≡ Err why → why ≢ stop.Open opening.Memory → answer ≢ Err (stop.Open opening.Memory)
+not_memory answer why is other e = other (let same : Err why ≡ Err (stop.Open opening.Memory) = sym is ∙ e in cc)
+
+pub unserved_leaves : (script : ScriptContent) (sink : Lent) (log_before log_after backing_before backing_after : State) (status : ℕ) (why : ServeStop) (answer : Result Session ServeStop)
+    → answer ≡ Err why → IsUnserved script log_before log_after backing_before backing_after why → EndsUnserved why sink status
+    → (answer ≢ Err (stop.Open opening.Memory) → CountsFaultsWhere (SaysLogFault answer) log_before.faults log_after.faults)
+    → (answer ≢ Err (stop.Open opening.Memory) → CountsFaultsWhere (SaysBackingFault answer) backing_before.faults backing_after.faults)
+    → Leaves (EndsServing script) (IsLeftBy script) (Unserved sink log_before log_after backing_before backing_after status)
+unserved_leaves script sink log_before log_after backing_before backing_after status why answer is unserved told log backing =
+    stopped_leaves script sink log_before log_after backing_before backing_after status why (record {
+      log = λ other. subst (λ (a : Result Session ServeStop). CountsFaultsWhere (SaysLogFault a) log_before.faults log_after.faults) is (log (not_memory answer why is other));
+      backing = λ other. subst (λ (a : Result Session ServeStop). CountsFaultsWhere (SaysBackingFault a) backing_before.faults backing_after.faults) is (backing (not_memory answer why is other));
+    }) unserved told
