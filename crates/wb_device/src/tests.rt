@@ -1,6 +1,6 @@
 use crate::{
-    CallCounts, Device, DeviceCall, FaultPlan, FileDevice, ListingDevice, MemoryDevice, MemorySink,
-    MemorySource, PlannedFault, Sink, Source, StdinSource, StdoutSink,
+    CallCounts, Device, DeviceCall, FaultPlan, FileDevice, ListingDevice, MemoryDevice,
+    PlannedFault, Sink, Source, StdinSource, StdoutSink,
 };
 use std::alloc::{AllocError, Global};
 use std::io::{ErrorKind, Read, Write};
@@ -128,56 +128,9 @@ fn a_short_write_is_carried_on(rt: HostRuntime) -> Result<(), Fail> {
     Ok(())
 }
 
-/// Which call of the source fails and which of the sink, and what the sink took in the end.
-const PASSED_ON: [(Option<u64>, Option<u64>, &[u8]); 4] = [
-    (None, None, b"abcde"),
-    (Some(1), None, b"abcde"),
-    (Some(0), Some(0), b"cde"),
-    (None, Some(1), b"abe"),
-];
-
-/// Reads four pieces of at most two bytes, and writes those that were read.
-fn pass_on(source: &mut MemorySource, sink: &mut MemorySink) {
-    for _ in 0..4 {
-        let mut piece = [0; 2];
-        if let Ok(count) = source.read(&mut piece) {
-            let _ = sink.write(&piece[..count]);
-        }
-    }
-}
-
-/// The sink took these bytes, and never lacked memory.
-fn took(rt: &impl Abort, sink: &MemorySink, bytes: &[u8]) {
-    assert_eq!(rt; sink.taken(), bytes);
-    assert!(rt; sink.starved() == 0);
-}
-
-/// What is passed on where these calls fail.
-fn passes_on(
-    rt: &impl Abort,
-    alloc: Global,
-    read_failing: Option<u64>,
-    write_failing: Option<u64>,
-    bytes: &[u8],
-) -> Result<(), Fail> {
-    let mut source = MemorySource::of(b"abcde".to_vec(alloc)?, read_failing);
-    let mut sink = MemorySink::new(alloc, write_failing);
-    pass_on(&mut source, &mut sink);
-    took(rt, &sink, bytes);
-    Ok(())
-}
-
-#[test]
-fn memory_fails_at_the_planned_call(rt: HostRuntime) -> Result<(), Fail> {
-    for (read_failing, write_failing, bytes) in &PASSED_ON {
-        passes_on(&rt, rt.alloc(), *read_failing, *write_failing, bytes)?;
-    }
-    Ok(())
-}
-
-/// A device of two sectors of zeros. Its second call fails, and stores one sector where it is a write; so does each
-/// from the fifth on, and stores nothing.
-fn failing_device(alloc: Global) -> Result<MemoryDevice, AllocError> {
+/// A device of two sectors of zeros, of which four calls are listed. Its second call fails, and stores one sector where it is
+/// a write; so does each from the sixth on, and stores nothing.
+fn failing_device(alloc: Global) -> Result<ListingDevice<MemoryDevice>, AllocError> {
     let faults = vec![in alloc;
         PlannedFault {
             call: 1,
@@ -186,9 +139,10 @@ fn failing_device(alloc: Global) -> Result<MemoryDevice, AllocError> {
     ]?;
     let plan = FaultPlan {
         faults,
-        stop: Some(4),
+        stop: Some(5),
     };
-    MemoryDevice::of(alloc, [0; 1100].to_vec(alloc)?, plan)
+    let device = MemoryDevice::of(alloc, [0; 1100].to_vec(alloc)?, plan)?;
+    ListingDevice::over(alloc, device, 4)
 }
 
 /// The choice of a crash, and the first and the last byte that it leaves.
@@ -199,68 +153,52 @@ const CRASHES: [(&[u8], u8, u8); 4] = [
     (b"\x03\x03", 0, 5),
 ];
 
-fn begins_and_ends(rt: &impl Abort, bytes: &[u8], first: u8, last: u8) {
-    let ends = (bytes.first().copied(), bytes.last().copied());
-    assert_eq!(rt; ends, (Some(first), Some(last)));
-}
-
-/// A crash by this choice leaves these bytes at the ends.
-fn leaves(
-    rt: &impl Abort,
+/// The ends of what a crash by this choice leaves.
+fn ends_after(
     alloc: Global,
     device: &MemoryDevice,
     choice: &[u8],
-    first: u8,
-    last: u8,
-) -> Result<(), Fail> {
+) -> Result<(Option<u8>, Option<u8>), Fail> {
     let crashed = device.crashed(alloc, choice)?;
-    begins_and_ends(rt, crashed.bytes(), first, last);
-    Ok(())
+    let bytes = crashed.bytes();
+    Ok((bytes.first().copied(), bytes.last().copied()))
 }
 
+/// What crashes leave behind three writes.
 fn leaves_each(rt: &impl Abort, alloc: Global, device: &MemoryDevice) -> Result<(), Fail> {
     for (choice, first, last) in &CRASHES {
-        leaves(rt, alloc, device, choice, *first, *last)?;
+        let ends = ends_after(alloc, device, choice)?;
+        assert!(rt; ends == (Some(*first), Some(*last)));
     }
     Ok(())
 }
 
-/// The first four calls: three writes, of which the second fails, and a sync.
+/// The first five calls: three writes, of which the second fails, a read and a sync.
 fn fails_at_the_second_call(
     rt: &impl Abort,
     alloc: Global,
-    device: &mut MemoryDevice,
+    device: &mut ListingDevice<MemoryDevice>,
 ) -> Result<(), Fail> {
     assert!(rt; device.sectors() == 2);
     device.write(0, &[7; 512])?;
     assert!(rt; device.write(0, &[9; 1024]).is_err());
     device.write(1, &[5; 512])?;
-    leaves_each(rt, alloc, device)?;
+    device.read(1, &mut [0; 512])?;
+    leaves_each(rt, alloc, device.inner())?;
     device.sync()?;
     Ok(())
 }
 
 /// Two calls more, which fail.
-fn fails_from_the_stop(rt: &impl Abort, device: &mut MemoryDevice) {
+fn fails_from_the_stop(rt: &impl Abort, device: &mut ListingDevice<MemoryDevice>) {
     assert!(rt; device.sectors() == 2);
     assert!(rt; device.write(0, &[1; 512]).is_err());
     assert!(rt; device.sync().is_err());
-    assert!(rt; device.calls() == 6);
-    assert!(rt; device.starved() == 0);
 }
 
-#[test]
-fn a_device_in_memory_fails_as_planned_and_crashes(rt: HostRuntime) -> Result<(), Fail> {
-    let mut device = failing_device(rt.alloc())?;
-    fails_at_the_second_call(&rt, rt.alloc(), &mut device)?;
-    fails_from_the_stop(&rt, &mut device);
-    leaves(&rt, rt.alloc(), &device, b"\x01", 9, 5)?;
-    begins_and_ends(&rt, device.into_bytes().as_slice(), 9, 5);
-    Ok(())
-}
-
-/// The calls that are listed: the sync comes behind the room.
-const LISTED: [DeviceCall; 3] = [
+/// The calls that are listed: the others come behind the room.
+const LISTED: [DeviceCall; 4] = [
+    DeviceCall::Write { at: 0, sectors: 1 },
     DeviceCall::Write { at: 0, sectors: 2 },
     DeviceCall::Write { at: 1, sectors: 1 },
     DeviceCall::Read { at: 1, sectors: 1 },
@@ -268,31 +206,27 @@ const LISTED: [DeviceCall; 3] = [
 
 const COUNTED: CallCounts = CallCounts {
     reads: 1,
-    writes: 2,
-    syncs: 1,
+    writes: 4,
+    syncs: 2,
 };
 
-/// Four calls, of which the second fails.
-fn lists_its_calls(rt: &impl Abort, device: &mut ListingDevice<MemoryDevice>) -> Result<(), Fail> {
-    assert!(rt; device.sectors() == 2);
-    device.write(0, &[7; 1024])?;
-    assert!(rt; device.write(1, &[9; 512]).is_err());
-    device.read(1, &mut [0; 512])?;
-    device.sync()?;
-    Ok(())
-}
-
-fn has_listed(rt: &impl Abort, device: &ListingDevice<MemoryDevice>) {
-    assert!(rt; device.calls() == LISTED.as_slice());
-    assert!(rt; device.counts() == COUNTED);
-    assert!(rt; device.inner().calls() == 4);
+/// Whether all calls were passed on, counted and, as far as there is room, listed.
+fn has_listed(device: &ListingDevice<MemoryDevice>) -> bool {
+    device.calls() == LISTED.as_slice()
+        && device.counts() == COUNTED
+        && device.inner().calls() == 7
+        && device.inner().starved() == 0
 }
 
 #[test]
-fn calls_are_passed_on_and_listed(rt: HostRuntime) -> Result<(), Fail> {
-    let mut device = ListingDevice::over(rt.alloc(), failing_device(rt.alloc())?, 3)?;
-    lists_its_calls(&rt, &mut device)?;
-    has_listed(&rt, &device);
-    begins_and_ends(&rt, device.into_inner().bytes(), 7, 9);
+fn a_device_in_memory_fails_as_planned_and_crashes(rt: HostRuntime) -> Result<(), Fail> {
+    let mut device = failing_device(rt.alloc())?;
+    fails_at_the_second_call(&rt, rt.alloc(), &mut device)?;
+    fails_from_the_stop(&rt, &mut device);
+    let (listed, ends) = (
+        has_listed(&device),
+        ends_after(rt.alloc(), device.inner(), b"\x01")?,
+    );
+    assert!(rt; listed && ends == (Some(9), Some(5)));
     Ok(())
 }

@@ -1,4 +1,5 @@
-//! Tests of the engine. Whoever owns an engine opens it, hands it to one function and closes it: so the proofs stay short.
+//! Tests of the engine. Few functions own one: they open it, lend it to what is to be done with it, and close it. So the
+//! proofs stay short.
 ghost use Rattle.std.specs.Prelude.{◌≡◌, ◌≤◌, ◌+◌, true};
 ghost use Rattle.wb_engine.specs.Standing.{Fits};
 
@@ -64,10 +65,14 @@ fn cache_over<L: Device, B: Device>(
     }
 }
 
-/// A cache over a new log.
-fn cache_of<B: Device>(alloc: Global, backing: B) -> Result<Engine<SteadyDevice, B>, Fail> {
-    let log = log_of(alloc, LOG_SECTORS, Some(FIRST.into()))?;
-    cache_over(alloc, log, backing)
+/// A new log.
+fn new_log(alloc: Global) -> Result<SteadyDevice, Fail> {
+    log_of(alloc, LOG_SECTORS, Some(FIRST.into()))
+}
+
+/// A new backing device that doesn't fail.
+fn new_backing(alloc: Global) -> Result<SteadyDevice, Fail> {
+    Ok(SteadyDevice::of(former_bytes(alloc, SECTORS)?))
 }
 
 /// Whether the entry may come into this cache.
@@ -200,7 +205,7 @@ fn stopping_at(alloc: Global, call: u64) -> FaultPlan {
 
 /// A formatted log that fails from this call on.
 fn failing_log(alloc: Global, call: u64) -> Result<MemoryDevice, Fail> {
-    let log = log_of(alloc, LOG_SECTORS, Some(FIRST.into()))?;
+    let log = new_log(alloc)?;
     Ok(MemoryDevice::of(alloc, log.into_bytes(), stopping_at(alloc, call))?)
 }
 

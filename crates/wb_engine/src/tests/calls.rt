@@ -1,8 +1,5 @@
 //! The calls that each step makes of both devices.
-use super::{
-    FIRST, LOG_SECTORS, SECTORS, cache_over, former_bytes, holds, log_of, reads_third, turn,
-    write_third,
-};
+use super::{cache_over, holds, new_backing, new_log, reads_third, turn, write_third};
 use crate::{Closed, Engine, Turn};
 use std::alloc::Global;
 use std::test::Fail;
@@ -10,11 +7,9 @@ use wb_device::{DeviceCall, ListingDevice, SteadyDevice};
 
 type Listed = ListingDevice<SteadyDevice>;
 
-/// A cache over new devices that list their calls.
-fn listed_cache(alloc: Global) -> Result<Engine<Listed, Listed>, Fail> {
-    let log = ListingDevice::over(alloc, log_of(alloc, LOG_SECTORS, Some(FIRST.into()))?, 64)?;
-    let backing = SteadyDevice::of(former_bytes(alloc, SECTORS)?);
-    cache_over(alloc, log, ListingDevice::over(alloc, backing, 64)?)
+/// A device that lists its calls.
+fn listed(alloc: Global, device: SteadyDevice) -> Result<Listed, Fail> {
+    Ok(ListingDevice::over(alloc, device, 64)?)
 }
 
 /// So many reads, writes and syncs.
@@ -102,16 +97,6 @@ const CALLS: [DeviceCall; 9] = [
     DeviceCall::Sync,
 ];
 
-#[test]
-fn each_turn_makes_the_calls_that_it_needs(rt: HostRuntime) -> Result<(), Fail> {
-    let alloc = rt.alloc();
-    let mut engine = listed_cache(alloc)?;
-    write_two_segments(alloc, &mut engine)?;
-    count_turns(&mut engine)?;
-    assert!(rt; engine.log.calls().get(7..) == Some(CALLS.as_slice()));
-    Ok(())
-}
-
 /// A sector in the log costs one read of it, and one on the backing device a read there.
 fn count_reads(alloc: Global, engine: &mut Engine<Listed, Listed>) -> Result<(), Fail> {
     write_two_segments(alloc, engine)?;
@@ -133,12 +118,37 @@ fn closed_well(closed: &Closed<Listed, Listed>) -> bool {
     closed.fault.is_none() && counts_of(&closed.log, &closed.backing) == ((11, 3, 3), (1, 4, 3))
 }
 
+/// What is counted before a cache is closed.
+#[derive(Clone, Copy)]
+enum Count {
+    Turns,
+    Reads,
+}
+
+/// What closing leaves of a cache over new devices, of whose calls these were counted before.
+fn closed_after(alloc: Global, count: Count) -> Result<Closed<Listed, Listed>, Fail> {
+    let log = listed(alloc, new_log(alloc)?)?;
+    let mut engine = cache_over(alloc, log, listed(alloc, new_backing(alloc)?)?)?;
+    match count {
+        Count::Turns => {
+            write_two_segments(alloc, &mut engine)?;
+            count_turns(&mut engine)?;
+        }
+        Count::Reads => count_reads(alloc, &mut engine)?,
+    }
+    Ok(engine.close())
+}
+
+#[test]
+fn each_turn_makes_the_calls_that_it_needs(rt: HostRuntime) -> Result<(), Fail> {
+    let closed = closed_after(rt.alloc(), Count::Turns)?;
+    assert!(rt; closed.log.calls().get(7..) == Some(CALLS.as_slice()));
+    Ok(())
+}
+
 #[test]
 fn a_read_and_a_close_make_the_calls_that_they_need(rt: HostRuntime) -> Result<(), Fail> {
-    let alloc = rt.alloc();
-    let mut engine = listed_cache(alloc)?;
-    count_reads(alloc, &mut engine)?;
-    let closed = engine.close();
+    let closed = closed_after(rt.alloc(), Count::Reads)?;
     assert!(rt; closed_well(&closed));
     Ok(())
 }

@@ -1,7 +1,7 @@
 //! An engine of which a device fails: it is down, absorbs while there is room, and still reads.
 use super::{
-    SECTORS, cache_of, cache_over, failing_backing, failing_log, former_bytes, holds, reads_third,
-    turn, write_third,
+    cache_over, failing_backing, failing_log, holds, new_backing, new_log, reads_third, turn,
+    write_third,
 };
 use crate::{Closed, Engine, Turn};
 use std::alloc::Global;
@@ -76,34 +76,19 @@ fn fail_writing_back(
 #[test]
 fn a_failed_write_back_takes_it_down(rt: HostRuntime) -> Result<(), Fail> {
     let alloc = rt.alloc();
-    let mut engine = cache_of(alloc, failing_backing(alloc, 1)?)?;
+    let mut engine = cache_over(alloc, new_log(alloc)?, failing_backing(alloc, 1)?)?;
     fail_writing_back(alloc, &mut engine)?;
     let closed = engine.close();
     assert!(rt; closed.fault == Some(Which::Backing) && closed.backing.calls() == 2);
     Ok(())
 }
 
-/// A write to the log fails.
-fn fail_logging(
-    alloc: Global,
-    engine: &mut Engine<MemoryDevice, SteadyDevice>,
-) -> Result<(), Fail> {
+/// The first write of a segment fails. To open the log took two reads, a sync, and a read of each of the four slots.
+fn fail_first(alloc: Global, engine: &mut Engine<MemoryDevice, SteadyDevice>) -> Result<(), Fail> {
     write_all(alloc, engine, &[0, 1, 2, 3])?;
     take_turns(engine, &[Err(Which::Log)])?;
     fill_down(alloc, engine, Which::Log, &[4, 5], 6)?;
     holds(engine.log.calls() == 8, "the device was called again")
-}
-
-#[test]
-fn a_failed_log_write_takes_it_down(rt: HostRuntime) -> Result<(), Fail> {
-    let alloc = rt.alloc();
-    // To open it took two reads, a sync, and a read of each of the four slots.
-    let log = failing_log(alloc, 7)?;
-    let mut engine = cache_over(alloc, log, SteadyDevice::of(former_bytes(alloc, SECTORS)?))?;
-    fail_logging(alloc, &mut engine)?;
-    let closed = engine.close();
-    assert!(rt; closed.fault == Some(Which::Log) && closed.log.calls() == 8);
-    Ok(())
 }
 
 /// A log of eight slots with a place each, whose third write of a segment fails and stores nothing. To open it takes two
@@ -120,25 +105,49 @@ fn narrow_log(alloc: Global) -> Result<MemoryDevice, Fail> {
     Ok(MemoryDevice::of(alloc, log.into_bytes(), FaultPlan { faults, stop: None })?)
 }
 
-/// Two segments are logged, and the write of the third fails.
+/// Two segments are logged, and the write of the third fails. The sectors of both are read from the log then.
 fn fail_third(alloc: Global, engine: &mut Engine<MemoryDevice, SteadyDevice>) -> Result<(), Fail> {
     write_all(alloc, engine, &[0, 1])?;
     take_turns(engine, &[Ok(Turn::Logged)])?;
     write_all(alloc, engine, &[2])?;
-    take_turns(engine, &[Ok(Turn::Logged)])?;
-    take_turns(engine, &[Err(Which::Log)])?;
+    take_turns(engine, &[Ok(Turn::Logged), Err(Which::Log)])?;
     fill_down(alloc, engine, Which::Log, &[3], 4)?;
-    holds(engine.log.calls() > 14, "no sector is read from the log")
+    holds(engine.log.calls() == 16, "other reads of the log")
+}
+
+/// The write of a segment to the log that fails.
+#[derive(Clone, Copy)]
+enum Failing {
+    First,
+    Third,
+}
+
+/// What closing leaves of a cache over this log, of which this write fails before.
+fn closed_after(
+    alloc: Global,
+    log: MemoryDevice,
+    failing: Failing,
+) -> Result<Closed<MemoryDevice, SteadyDevice>, Fail> {
+    let mut engine = cache_over(alloc, log, new_backing(alloc)?)?;
+    match failing {
+        Failing::First => fail_first(alloc, &mut engine)?,
+        Failing::Third => fail_third(alloc, &mut engine)?,
+    }
+    Ok(engine.close())
+}
+
+#[test]
+fn a_failed_log_write_takes_it_down(rt: HostRuntime) -> Result<(), Fail> {
+    let log = failing_log(rt.alloc(), 7)?;
+    let closed = closed_after(rt.alloc(), log, Failing::First)?;
+    assert!(rt; closed.fault == Some(Which::Log) && closed.log.calls() == 8);
+    Ok(())
 }
 
 #[test]
 fn the_third_write_of_a_segment_fails(rt: HostRuntime) -> Result<(), Fail> {
-    let alloc = rt.alloc();
-    let log = narrow_log(alloc)?;
-    let mut engine = cache_over(alloc, log, SteadyDevice::of(former_bytes(alloc, SECTORS)?))?;
-    fail_third(alloc, &mut engine)?;
-    let calls = engine.log.calls();
-    let closed = engine.close();
-    assert!(rt; closed.fault == Some(Which::Log) && closed.log.calls() == calls);
+    let log = narrow_log(rt.alloc())?;
+    let closed = closed_after(rt.alloc(), log, Failing::Third)?;
+    assert!(rt; closed.fault == Some(Which::Log) && closed.log.calls() == 16);
     Ok(())
 }

@@ -1,6 +1,6 @@
 //! The engine beside a plain list of what was written.
 use super::{
-    FIRST, FORMER, NOWHERE, SECTOR_BYTES, SECTORS, are_filled, cache_of, former_bytes, holds, put,
+    FIRST, FORMER, NOWHERE, SECTOR_BYTES, are_filled, cache_over, holds, new_backing, new_log, put,
     reads_as, spots_of, turn, write,
 };
 use crate::{Closed, Engine, Turn};
@@ -254,7 +254,7 @@ fn left(closed: &Closed<SteadyDevice, SteadyDevice>, plain: &Plain) -> bool {
 #[test]
 fn engine_and_plain_list_agree(rt: HostRuntime) -> Result<(), Fail> {
     let alloc = rt.alloc();
-    let mut engine = cache_of(alloc, SteadyDevice::of(former_bytes(alloc, SECTORS)?))?;
+    let mut engine = cache_over(alloc, new_log(alloc)?, new_backing(alloc)?)?;
     let mut plain = Plain::new();
     play(alloc, &mut engine, &mut plain, 301)?;
     let closed = engine.close();

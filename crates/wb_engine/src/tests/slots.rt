@@ -1,9 +1,9 @@
 //! Where a sector is read from, and slots that are taken again.
 use super::{
-    LOG_SECTORS, NOWHERE, SECTORS, cache_of, cache_over, former_bytes, holds, log_of, put,
-    reads_as, reads_third, spots_of, turn, write, write_third,
+    LOG_SECTORS, NOWHERE, cache_over, holds, log_of, new_backing, new_log, put, reads_as,
+    reads_third, spots_of, turn, write, write_third,
 };
-use crate::{Engine, Turn};
+use crate::{Closed, Engine, Turn};
 use std::alloc::Global;
 use std::test::Fail;
 use wb_device::SteadyDevice;
@@ -43,15 +43,6 @@ fn reads_from_three(engine: &mut Cache) -> Result<(), Fail> {
     holds(spots_of(engine, 0) == Some(spots), "other spots")?;
     let fills = [0x01, 0x01, 0x02, 0x02, 104, 105, 106, 107];
     holds(reads_as(engine, 0, &fills), "other bytes")
-}
-
-#[test]
-fn a_block_is_read_from_wherever_it_stands(rt: HostRuntime) -> Result<(), Fail> {
-    let alloc = rt.alloc();
-    let log = log_of(alloc, LOG_SECTORS, Some(0))?;
-    let mut engine = cache_over(alloc, log, SteadyDevice::of(former_bytes(alloc, SECTORS)?))?;
-    write_in_two_segments(alloc, &mut engine)?;
-    reads_from_three(&mut engine)
 }
 
 /// What turns do once all four slots are taken and a fifth segment waits.
@@ -97,14 +88,6 @@ fn turn_to_the_end(engine: &mut Cache) -> Result<(), Fail> {
     holds(turn(engine) == Some(Ok(Turn::Idle)), "it isn't idle")
 }
 
-#[test]
-fn a_slot_is_taken_again_once_it_is_recorded(rt: HostRuntime) -> Result<(), Fail> {
-    let alloc = rt.alloc();
-    let mut engine = cache_of(alloc, SteadyDevice::of(former_bytes(alloc, SECTORS)?))?;
-    take_all_slots(alloc, &mut engine)?;
-    turn_to_the_end(&mut engine)
-}
-
 /// Three segments of a place each over two slots: the third waits for the record to name the first.
 fn wrap(alloc: Global, engine: &mut Cache) -> Result<(), Fail> {
     for block in 0..2 {
@@ -126,14 +109,66 @@ fn wrap(alloc: Global, engine: &mut Cache) -> Result<(), Fail> {
     )
 }
 
+/// What is done with a cache before it is closed.
+#[derive(Clone, Copy)]
+enum Play {
+    ReadFromThree,
+    TakeAllSlots,
+    Wrap,
+}
+
+/// Does it.
+fn carry_out(alloc: Global, engine: &mut Cache, play: Play) -> Result<(), Fail> {
+    match play {
+        Play::ReadFromThree => {
+            write_in_two_segments(alloc, engine)?;
+            reads_from_three(engine)
+        }
+        Play::TakeAllSlots => {
+            take_all_slots(alloc, engine)?;
+            turn_to_the_end(engine)
+        }
+        Play::Wrap => wrap(alloc, engine),
+    }
+}
+
+/// What closing leaves of a cache over this log, with which this was done before.
+fn closed_after(
+    alloc: Global,
+    log: SteadyDevice,
+    done: Play,
+) -> Result<Closed<SteadyDevice, SteadyDevice>, Fail> {
+    let mut engine = cache_over(alloc, log, new_backing(alloc)?)?;
+    carry_out(alloc, &mut engine, done)?;
+    Ok(engine.close())
+}
+
+/// Whether a log has this record, behind a cache that was closed without a fault.
+fn has_recorded(closed: &mut Closed<SteadyDevice, SteadyDevice>, recorded: u64) -> bool {
+    closed.fault.is_none()
+        && read_super(&mut closed.log).is_ok_and(|found| found.recorded == recorded)
+}
+
+#[test]
+fn a_block_is_read_from_wherever_it_stands(rt: HostRuntime) -> Result<(), Fail> {
+    let log = log_of(rt.alloc(), LOG_SECTORS, Some(0))?;
+    let mut closed = closed_after(rt.alloc(), log, Play::ReadFromThree)?;
+    assert!(rt; has_recorded(&mut closed, 2));
+    Ok(())
+}
+
+#[test]
+fn a_slot_is_taken_again_once_it_is_recorded(rt: HostRuntime) -> Result<(), Fail> {
+    let mut closed = closed_after(rt.alloc(), new_log(rt.alloc())?, Play::TakeAllSlots)?;
+    assert!(rt; has_recorded(&mut closed, 12));
+    Ok(())
+}
+
 #[test]
 fn three_segments_share_two_slots(rt: HostRuntime) -> Result<(), Fail> {
-    let alloc = rt.alloc();
-    let mut log = SteadyDevice::of(vec![in alloc; 0; 2080 * 512]?);
+    let mut log = SteadyDevice::of(vec![in rt.alloc(); 0; 2080 * 512]?);
     format(&mut log, &Geometry::new(4, 2, 2, 64)?)?;
-    let mut engine = cache_over(alloc, log, SteadyDevice::of(former_bytes(alloc, SECTORS)?))?;
-    wrap(alloc, &mut engine)?;
-    let mut closed = engine.close();
-    assert!(rt; read_super(&mut closed.log).is_ok_and(|found| found.recorded == 3));
+    let mut closed = closed_after(rt.alloc(), log, Play::Wrap)?;
+    assert!(rt; has_recorded(&mut closed, 3));
     Ok(())
 }
