@@ -321,23 +321,39 @@ places 4
 wblog: log device failed
 ";
 
-// The calls from which on the log and the backing device fail, the status, what is printed, and the places. The cache is
-// opened by seven calls of the log and one of the backing device.
-const FULL: [(Failing, Failing, u8, &str, u64); 4] = [
-    (Failing::Never, Failing::From(1), 7, NO_BACKING, 4),
-    (Failing::From(7), Failing::Never, 6, NO_SLOT, 2),
-    (Failing::From(8), Failing::Never, 6, ONE_SLOT, 3),
-    (Failing::From(9), Failing::Never, 6, NO_SYNC, 4),
+// The third write of a segment fails, and nothing else: what is in the log is still read.
+const NO_THIRD: &str = "\
+0 w 0 1 at 0
+0 w 8 1 at 1
+0 w 16 1 at 2
+0 w 24 1 at 3
+0 w 32 1 down log
+0 r 0 1 point 4 01
+0 r 8 1 point 4 02
+0 r 24 1 point 4 04
+0 r 32 1 point 4 5a
+places 4
+wblog: log device failed
+";
+
+// The slots of the log, the calls of it and of the backing device that fail, the status, what is printed, and the places. The
+// cache is opened by five calls of the log and one for each slot, and by one of the backing device.
+const FULL: [(u32, Failing, Failing, u8, &str, u64); 5] = [
+    (2, Failing::Never, Failing::From(1), 7, NO_BACKING, 4),
+    (2, Failing::From(7), Failing::Never, 6, NO_SLOT, 2),
+    (2, Failing::From(8), Failing::Never, 6, ONE_SLOT, 3),
+    (2, Failing::From(9), Failing::Never, 6, NO_SYNC, 4),
+    (8, Failing::Once(15), Failing::Never, 6, NO_THIRD, 4),
 ];
 
 #[test]
 fn a_write_that_finds_no_room_is_stopped(rt: HostRuntime) -> Result<(), Fail> {
-    for (log, backing, status, printed, places) in &FULL {
+    for (slots, log, backing, status, printed, places) in &FULL {
         let output = [*printed];
         let case = Case {
             script: FIVE,
             order: 4,
-            slots: 2,
+            slots: *slots,
             log: *log,
             backing: *backing,
             status: *status,
