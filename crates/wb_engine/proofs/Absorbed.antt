@@ -21,7 +21,7 @@ use Rattle.wb_header.specs.Segments.{Segment}
 use Rattle.wb_header.specs.Standing.{StandsFor}
 use Rattle.wb_header.proofs.Standings.{stands_none}
 use Rattle.wb_log.specs.Kept.{Kept}
-use Rattle.wb_engine.specs.Memory.{MemoryContent, live}
+use Rattle.wb_memory.specs.Memory.{MemoryContent, live}
 use Rattle.wb_engine.specs.Content.{EngineContent, IsEngine, IsInsideBacking, AreMetasInside, limit_of}
 use Rattle.wb_engine.specs.Standing.{Standing, IsSynced, MayCome, Fits, Keeps, blocks_of, IsNextOpened, IsSealedIfFull, numbers_at}
 use Rattle.wb_crash.specs.declared.numbers.Numbers.{Numbers}
@@ -73,17 +73,18 @@ module _ {L B : Type 0} where
   begins e (entry.Write client block payload) fits none = omega arith
   begins e (entry.Void client) fits none = absurd (fits none)
 
+module _ {L B : Type 0} {of_log : L → State} {of_backing : B → State} where
   -- the open segment has a block behind it
-  some_blocks : (e : EngineContent L B) (log backing : State) (come : Entry) (m : MemoryContent) → IsEngine e log backing → MayCome e come → Keeps come e.memory m → 1 ≤ length m.current.blocks
-  some_blocks e log backing come m is may keeps = elim (cases_eq (e.absorbed % places e.geometry) 0) [
+  some_blocks : (e : EngineContent L B) (come : Entry) (m : MemoryContent) → IsEngine of_log of_backing e → MayCome e come → Keeps come e.memory m → 1 ≤ length m.current.blocks
+  some_blocks e come m is may keeps = elim (cases_eq (e.absorbed % places e.geometry) 0) [
     | inl none ↦ keeps.some (omega (arith, begins e come may.fits none))
     | inr other ↦ keeps.some (omega (arith, is.filled.some (omega arith)))
   ]
 
   -- and not too many
-  few_blocks : (e : EngineContent L B) (log backing : State) (come : Entry) (m : MemoryContent) → IsEngine e log backing → Keeps come e.memory m
+  few_blocks : (e : EngineContent L B) (come : Entry) (m : MemoryContent) → IsEngine of_log of_backing e → Keeps come e.memory m
       → length m.current.blocks ≤ e.absorbed % places e.geometry + 1
-  few_blocks e log backing come m is keeps = omega (arith, keeps.few, is.filled.few, at_most_one come)
+  few_blocks e come m is keeps = omega (arith, keeps.few, is.filled.few, at_most_one come)
 
 -- the places of a history that fills its segments end where the next segment begins
 rest_is : (n first a id : ℕ) (h : List HistoryEntry) → a % n ≡ 0 → length h ≡ a → first + a / n + 1 ≡ id → length h ≤ n * (id - (first + 1))
@@ -99,20 +100,21 @@ all_front P xs x all = λ k d lt. subst P (get_or_append_left xs (x ∷ []) d k 
 all_last : (P : Segment → Type 0) (xs : List Segment) (x : Segment) → All P (xs ++ x ∷ []) → P x
 all_last P xs x all = subst P (get_or_push xs x x (length xs) refl) (all (length xs) x (omega (arith, length_push xs x)))
 
-module _ {L B : Type 0} where
+module _ {L B : Type 0} {of_log : L → State} {of_backing : B → State} where
   -- the open segment with the entry is inside
-  inside_kept : (e : EngineContent L B) (log backing : State) (come : Entry) (m : MemoryContent) → IsEngine e log backing → MayCome e come → Keeps come e.memory m
+  inside_kept : (e : EngineContent L B) (come : Entry) (m : MemoryContent) → IsEngine of_log of_backing e → MayCome e come → Keeps come e.memory m
       → IsInsideBacking e.geometry m.current
-  inside_kept e log backing come m is may keeps =
+  inside_kept e come m is may keeps =
       keeps.inside e.geometry.backing_sectors (all_last (IsInsideBacking e.geometry) e.memory.sealed e.memory.current is.memory.inside) (inside_entered e come may.fits)
 
-  inside_sealed : (e : EngineContent L B) (log backing : State) → IsEngine e log backing → All (IsInsideBacking e.geometry) e.memory.sealed
-  inside_sealed e log backing is = all_front (IsInsideBacking e.geometry) e.memory.sealed e.memory.current is.memory.inside
+  inside_sealed : (e : EngineContent L B) → IsEngine of_log of_backing e → All (IsInsideBacking e.geometry) e.memory.sealed
+  inside_sealed e is = all_front (IsInsideBacking e.geometry) e.memory.sealed e.memory.current is.memory.inside
 
-  id_kept : (e : EngineContent L B) (log backing : State) (come : Entry) (m : MemoryContent) → IsEngine e log backing → Keeps come e.memory m
+  id_kept : (e : EngineContent L B) (come : Entry) (m : MemoryContent) → IsEngine of_log of_backing e → Keeps come e.memory m
       → m.current.id ≡ e.numbers.logged + 1 + length e.memory.sealed
-  id_kept e log backing come m is keeps = keeps.id ∙ turn_last e.numbers.logged e.memory.sealed e.memory.current is.memory.ids
+  id_kept e come m is keeps = keeps.id ∙ turn_last e.numbers.logged e.memory.sealed e.memory.current is.memory.ids
 
+module _ {L B : Type 0} where
   -- places
   under_ids : (e : EngineContent L B) (come : Entry) → MayCome e come → e.absorbed + 1 ≤ places e.geometry * (2 ^ 48 - e.numbers.first)
   under_ids e come may =
@@ -123,11 +125,12 @@ module _ {L B : Type 0} where
       let room : suc (e.absorbed / n) ≤ 2 ^ 48 - e.numbers.first = let m = may.ids in omega arith in
       omega (arith, low, div-add-mod e.absorbed n, mul-suc n (e.absorbed / n), mul-le-mul_left n room)
 
+module _ {L B : Type 0} {of_log : L → State} {of_backing : B → State} where
   -- ---- the segment isn't full
 
-  pub engine_kept : (e : EngineContent L B) (log backing : State) (come : Entry) (m : MemoryContent) → IsEngine e log backing → MayCome e come → Keeps come e.memory m
-      → FillsNot (places e.geometry) e.absorbed → IsEngine (record e { absorbed = e.absorbed + 1; memory = m }) log backing
-  engine_kept e log backing come m is may keeps fits =
+  pub engine_kept : (e : EngineContent L B) (come : Entry) (m : MemoryContent) → IsEngine of_log of_backing e → MayCome e come → Keeps come e.memory m
+      → FillsNot (places e.geometry) e.absorbed → IsEngine of_log of_backing (record e { absorbed = e.absorbed + 1; memory = m })
+  engine_kept e come m is may keeps fits =
       let now : live m ≡ e.memory.sealed ++ m.current ∷ [] = ap (λ (segments : List Segment). segments ++ m.current ∷ []) keeps.sealed in
       record {
         ordered = is.ordered;
@@ -138,8 +141,8 @@ module _ {L B : Type 0} where
           sealed = is.filled.sealed ∙ ap (λ (k : ℕ). e.numbers.first + k) (sym fits.count);
           limited = let room = may.room in omega arith;
           ids = under_ids e come may;
-          few = let few = few_blocks e log backing come m is keeps in subst (λ (k : ℕ). length m.current.blocks ≤ k) (sym fits.rest) few;
-          some = λ _. some_blocks e log backing come m is may keeps;
+          few = let few = few_blocks e come m is keeps in subst (λ (k : ℕ). length m.current.blocks ≤ k) (sym fits.rest) few;
+          some = λ _. some_blocks e come m is may keeps;
         };
         memory = record {
           places = keeps.places ∙ is.memory.places;
@@ -147,9 +150,9 @@ module _ {L B : Type 0} where
           slots = ap (λ (k : Kept). k.slots) keeps.logged ∙ is.memory.slots;
           count = ap length keeps.sealed ∙ is.memory.count;
           ids = subst (AreInTurn e.numbers.logged) (sym now)
-              (turn_push e.numbers.logged e.memory.sealed m.current (turn_front e.numbers.logged e.memory.sealed e.memory.current is.memory.ids) (id_kept e log backing come m is keeps));
+              (turn_push e.numbers.logged e.memory.sealed m.current (turn_front e.numbers.logged e.memory.sealed e.memory.current is.memory.ids) (id_kept e come m is keeps));
           inside = subst (All (IsInsideBacking e.geometry)) (sym now)
-              (All-push (IsInsideBacking e.geometry) e.memory.sealed m.current (inside_sealed e log backing is) (inside_kept e log backing come m is may keeps));
+              (All-push (IsInsideBacking e.geometry) e.memory.sealed m.current (inside_sealed e is) (inside_kept e come m is may keeps));
           logged_count = ap (λ (k : Kept). length k.kept) keeps.logged ∙ is.memory.logged_count;
           logged_first = subst (λ (k : Kept). 1 ≤ length k.kept → k.first ≡ e.numbers.recorded + 1) (sym keeps.logged) is.memory.logged_first;
           logged_inside = subst (λ (k : Kept). All (AreMetasInside e.geometry.backing_sectors) k.kept) (sym keeps.logged) is.memory.logged_inside;
@@ -158,31 +161,31 @@ module _ {L B : Type 0} where
 
   -- ---- it is full
 
-  pub engine_sealed : (e : EngineContent L B) (log backing : State) (come : Entry) (m next : MemoryContent) (numbers : Numbers) → IsEngine e log backing → MayCome e come → Keeps come e.memory m
-      → Fills (places e.geometry) e.absorbed → IsNextOpened e.numbers numbers m next → IsEngine (record e { absorbed = e.absorbed + 1; numbers = numbers; memory = next }) log backing
-  engine_sealed e log backing come m next numbers is may keeps full opened =
+  pub engine_sealed : (e : EngineContent L B) (come : Entry) (m next : MemoryContent) (numbers : Numbers) → IsEngine of_log of_backing e → MayCome e come → Keeps come e.memory m
+      → Fills (places e.geometry) e.absorbed → IsNextOpened e.numbers numbers m next → IsEngine of_log of_backing (record e { absorbed = e.absorbed + 1; numbers = numbers; memory = next })
+  engine_sealed e come m next numbers is may keeps full opened =
       let g : Geometry = e.geometry in
       let s : Segment = opened.segment in
       let same_logged : next.logged ≡ e.memory.logged = opened.logged ∙ keeps.logged in
       let grown : next.sealed ≡ e.memory.sealed ++ s ∷ [] = opened.sealed ∙ ap (λ (segments : List Segment). segments ++ s ∷ []) keeps.sealed in
       let now : live next ≡ (e.memory.sealed ++ s ∷ []) ++ next.current ∷ [] = ap (λ (segments : List Segment). segments ++ next.current ∷ []) grown in
-      let id : s.id ≡ e.numbers.logged + 1 + length e.memory.sealed = opened.id ∙ id_kept e log backing come m is keeps in
+      let id : s.id ≡ e.numbers.logged + 1 + length e.memory.sealed = opened.id ∙ id_kept e come m is keeps in
       let count : length (e.memory.sealed ++ s ∷ []) ≡ length e.memory.sealed + 1 = length_push e.memory.sealed s in
       let next_id : next.current.id ≡ e.numbers.logged + 1 + length (e.memory.sealed ++ s ∷ []) =
       omega (arith, opened.next_id, opened.id, id, count) in
       let turn : AreInTurn e.numbers.logged ((e.memory.sealed ++ s ∷ []) ++ next.current ∷ []) =
       turn_push e.numbers.logged (e.memory.sealed ++ s ∷ []) next.current
       (turn_push e.numbers.logged e.memory.sealed s (turn_front e.numbers.logged e.memory.sealed e.memory.current is.memory.ids) id) next_id in
-      let inside_s : IsInsideBacking g s = subst (λ (b : List TextBlock). All (λ block. 8 * block.number + 8 ≤ g.backing_sectors) b) (sym opened.blocks) (inside_kept e log backing come m is may keeps) in
+      let inside_s : IsInsideBacking g s = subst (λ (b : List TextBlock). All (λ block. 8 * block.number + 8 ≤ g.backing_sectors) b) (sym opened.blocks) (inside_kept e come m is may keeps) in
       let inside_next : IsInsideBacking g next.current =
       subst (λ (b : List TextBlock). All (λ block. 8 * block.number + 8 ≤ g.backing_sectors) b) (sym opened.next_blocks) (All-nil (λ block. 8 * block.number + 8 ≤ g.backing_sectors)) in
       let inside : All (IsInsideBacking g) ((e.memory.sealed ++ s ∷ []) ++ next.current ∷ []) =
-      All-push (IsInsideBacking g) (e.memory.sealed ++ s ∷ []) next.current (All-push (IsInsideBacking g) e.memory.sealed s (inside_sealed e log backing is) inside_s) inside_next in
+      All-push (IsInsideBacking g) (e.memory.sealed ++ s ∷ []) next.current (All-push (IsInsideBacking g) e.memory.sealed s (inside_sealed e is) inside_s) inside_next in
       let moved : Numbers = record e.numbers { sealed = e.numbers.sealed + 1 } in
       let sealed_is : e.numbers.sealed ≡ e.numbers.first + e.absorbed / places g = is.filled.sealed in
       let ids : e.numbers.first + 1 + e.absorbed / places g ≤ 2 ^ 48 = may.ids in
       let room : e.absorbed < limit_of g e.numbers = may.room in
-      subst (λ (n : Numbers). IsEngine (record e { absorbed = e.absorbed + 1; numbers = n; memory = next }) log backing) (sym opened.numbers_are) (record {
+      subst (λ (n : Numbers). IsEngine of_log of_backing (record e { absorbed = e.absorbed + 1; numbers = n; memory = next })) (sym opened.numbers_are) (record {
         ordered = record {
           start = is.ordered.start;
           recorded = is.ordered.recorded;
@@ -219,65 +222,65 @@ module _ {L B : Type 0} where
 
   -- ---- whichever
 
-  pub engine_absorbed : (e : EngineContent L B) (log backing : State) (come : Entry) (m next : MemoryContent) (numbers : Numbers) → IsEngine e log backing → MayCome e come → Keeps come e.memory m
-      → IsSealedIfFull (e.absorbed + 1) (places e.geometry) e.numbers numbers m next → IsEngine (record e { absorbed = e.absorbed + 1; numbers = numbers; memory = next }) log backing
-  engine_absorbed e log backing come m next numbers is may keeps (inl sealed) = elim (fills (places e.geometry) e.absorbed (places_few e.geometry).0) [
-    | inl full ↦ engine_sealed e log backing come m next numbers is may keeps full sealed.1
+  pub engine_absorbed : (e : EngineContent L B) (come : Entry) (m next : MemoryContent) (numbers : Numbers) → IsEngine of_log of_backing e → MayCome e come → Keeps come e.memory m
+      → IsSealedIfFull (e.absorbed + 1) (places e.geometry) e.numbers numbers m next → IsEngine of_log of_backing (record e { absorbed = e.absorbed + 1; numbers = numbers; memory = next })
+  engine_absorbed e come m next numbers is may keeps (inl sealed) = elim (fills (places e.geometry) e.absorbed (places_few e.geometry).0) [
+    | inl full ↦ engine_sealed e come m next numbers is may keeps full sealed.1
     | inr not_full ↦ absurd (omega (arith, sealed.0, not_full.rest))
   ]
-  engine_absorbed e log backing come m next numbers is may keeps (inr same) = elim (fills (places e.geometry) e.absorbed (places_few e.geometry).0) [
+  engine_absorbed e come m next numbers is may keeps (inr same) = elim (fills (places e.geometry) e.absorbed (places_few e.geometry).0) [
     | inl full ↦ absurd (same.0 full.rest)
     | inr not_full ↦
-        subst (λ (n : Numbers). IsEngine (record e { absorbed = e.absorbed + 1; numbers = n; memory = next }) log backing) (sym same.1)
-        (subst (λ (k : MemoryContent). IsEngine (record e { absorbed = e.absorbed + 1; memory = k }) log backing) (sym same.2) (engine_kept e log backing come m is may keeps not_full))
+        subst (λ (n : Numbers). IsEngine of_log of_backing (record e { absorbed = e.absorbed + 1; numbers = n; memory = next })) (sym same.1)
+        (subst (λ (k : MemoryContent). IsEngine of_log of_backing (record e { absorbed = e.absorbed + 1; memory = k })) (sym same.2) (engine_kept e come m is may keeps not_full))
   ]
 
-  pub numbers_absorbed : (e : EngineContent L B) (log backing : State) (m next : MemoryContent) (numbers : Numbers) → IsEngine e log backing
+  pub numbers_absorbed : (e : EngineContent L B) (m next : MemoryContent) (numbers : Numbers) → IsEngine of_log of_backing e
       → IsSealedIfFull (e.absorbed + 1) (places e.geometry) e.numbers numbers m next → numbers ≡ numbers_at e.geometry e.numbers (e.absorbed + 1)
-  numbers_absorbed e log backing m next numbers is (inl sealed) = elim (fills (places e.geometry) e.absorbed (places_few e.geometry).0) [
+  numbers_absorbed e m next numbers is (inl sealed) = elim (fills (places e.geometry) e.absorbed (places_few e.geometry).0) [
     | inl full ↦ sealed.1.numbers_are ∙ ap (λ (k : ℕ). record e.numbers { sealed = k }) (let s = is.filled.sealed in omega (arith, s, full.count))
     | inr not_full ↦ absurd (omega (arith, sealed.0, not_full.rest))
   ]
-  numbers_absorbed e log backing m next numbers is (inr same) = elim (fills (places e.geometry) e.absorbed (places_few e.geometry).0) [
+  numbers_absorbed e m next numbers is (inr same) = elim (fills (places e.geometry) e.absorbed (places_few e.geometry).0) [
     | inl full ↦ absurd (same.0 full.rest)
     | inr not_full ↦ same.1 ∙ ap (λ (k : ℕ). record e.numbers { sealed = k }) (let s = is.filled.sealed in omega (arith, s, not_full.count))
   ]
 
-  pub standing_absorbed : (e : EngineContent L B) (log backing : State) (come : Entry) (m next : MemoryContent) (numbers : Numbers) (base : Image) (h : List HistoryEntry)
-      → IsEngine e log backing → MayCome e come → Keeps come e.memory m → IsSealedIfFull (e.absorbed + 1) (places e.geometry) e.numbers numbers m next
-      → Standing e log backing base h → Standing (record e { absorbed = e.absorbed + 1; numbers = numbers; memory = next }) log backing base (h ++ entered come ∷ [])
-  standing_absorbed e log backing come m next numbers base h is may keeps (inr same) stands =
-      let pushed = standing_pushed e m log backing base h (entered come) is keeps.sealed keeps.id keeps.logged keeps.stands stands in
-      subst (λ (n : Numbers). Standing (record e { absorbed = e.absorbed + 1; numbers = n; memory = next }) log backing base (h ++ entered come ∷ [])) (sym same.1)
-      (subst (λ (k : MemoryContent). Standing (record e { absorbed = e.absorbed + 1; memory = k }) log backing base (h ++ entered come ∷ [])) (sym same.2) pushed)
-  standing_absorbed e log backing come m next numbers base h is may keeps (inl sealed) stands = elim (fills (places e.geometry) e.absorbed (places_few e.geometry).0) [
+  pub standing_absorbed : (e : EngineContent L B) (come : Entry) (m next : MemoryContent) (numbers : Numbers) (base : Image) (h : List HistoryEntry)
+      → IsEngine of_log of_backing e → MayCome e come → Keeps come e.memory m → IsSealedIfFull (e.absorbed + 1) (places e.geometry) e.numbers numbers m next
+      → Standing of_log of_backing e base h → Standing of_log of_backing (record e { absorbed = e.absorbed + 1; numbers = numbers; memory = next }) base (h ++ entered come ∷ [])
+  standing_absorbed e come m next numbers base h is may keeps (inr same) stands =
+      let pushed = standing_pushed e m base h (entered come) is keeps.sealed keeps.id keeps.logged keeps.stands stands in
+      subst (λ (n : Numbers). Standing of_log of_backing (record e { absorbed = e.absorbed + 1; numbers = n; memory = next }) base (h ++ entered come ∷ [])) (sym same.1)
+      (subst (λ (k : MemoryContent). Standing of_log of_backing (record e { absorbed = e.absorbed + 1; memory = k }) base (h ++ entered come ∷ [])) (sym same.2) pushed)
+  standing_absorbed e come m next numbers base h is may keeps (inl sealed) stands = elim (fills (places e.geometry) e.absorbed (places_few e.geometry).0) [
     | inr not_full ↦ absurd (omega (arith, sealed.0, not_full.rest))
     | inl full ↦
         let n : ℕ = places e.geometry in
         let now : List HistoryEntry = h ++ entered come ∷ [] in
         let opened = sealed.1 in
-        let pushed = standing_pushed e m log backing base h (entered come) is keeps.sealed keeps.id keeps.logged keeps.stands stands in
+        let pushed = standing_pushed e m base h (entered come) is keeps.sealed keeps.id keeps.logged keeps.stands stands in
         let behind : e.numbers.first + (e.absorbed + 1) / n + 1 ≡ next.current.id =
-        omega (arith, opened.next_id, id_kept e log backing come m is keeps, is.memory.count, is.filled.sealed, full.count, is.ordered.logged, is.ordered.tried) in
+        omega (arith, opened.next_id, id_kept e come m is keeps, is.memory.count, is.filled.sealed, full.count, is.ordered.logged, is.ordered.tried) in
         let none : segment n e.numbers.first now next.current.id ≡ [] =
         segment-none n e.numbers.first now next.current.id (rest_is n e.numbers.first (e.absorbed + 1) next.current.id now full.rest pushed.places behind) in
         let empty : StandsFor next.current.blocks (segment n e.numbers.first now next.current.id) =
         subst (λ (b : List TextBlock). StandsFor b (segment n e.numbers.first now next.current.id)) (sym opened.next_blocks)
         (subst (StandsFor []) (sym none) stands_none) in
         let ids : e.numbers.sealed + 1 ≤ 2 ^ 48 = omega (arith, is.filled.sealed, may.ids) in
-        let done = standing_sealed (record e { absorbed = e.absorbed + 1; memory = m }) next opened.segment log backing base now opened.sealed opened.id opened.blocks opened.logged ids empty pushed in
-        subst (λ (k : Numbers). Standing (record e { absorbed = e.absorbed + 1; numbers = k; memory = next }) log backing base now) (sym opened.numbers_are) done
+        let done = standing_sealed (record e { absorbed = e.absorbed + 1; memory = m }) next opened.segment base now opened.sealed opened.id opened.blocks opened.logged ids empty pushed in
+        subst (λ (k : Numbers). Standing of_log of_backing (record e { absorbed = e.absorbed + 1; numbers = k; memory = next }) base now) (sym opened.numbers_are) done
   ]
 
   -- a crash leaves what it left
-  pub synced_absorbed : (e : EngineContent L B) (log backing : State) (m next : MemoryContent) (numbers : Numbers)
+  pub synced_absorbed : (e : EngineContent L B) (m next : MemoryContent) (numbers : Numbers)
       → IsSealedIfFull (e.absorbed + 1) (places e.geometry) e.numbers numbers m next
-      → IsSynced e log backing → IsSynced (record e { absorbed = e.absorbed + 1; numbers = numbers; memory = next }) log backing
-  synced_absorbed e log backing m next numbers (inl sealed) is =
-      subst (λ (n : Numbers). IsSynced (record e { absorbed = e.absorbed + 1; numbers = n; memory = next }) log backing) (sym sealed.1.numbers_are)
+      → IsSynced of_log of_backing e → IsSynced of_log of_backing (record e { absorbed = e.absorbed + 1; numbers = numbers; memory = next })
+  synced_absorbed e m next numbers (inl sealed) is =
+      subst (λ (n : Numbers). IsSynced of_log of_backing (record e { absorbed = e.absorbed + 1; numbers = n; memory = next })) (sym sealed.1.numbers_are)
       (record { written_back = is.written_back; written = is.written })
-  synced_absorbed e log backing m next numbers (inr same) is =
-      subst (λ (n : Numbers). IsSynced (record e { absorbed = e.absorbed + 1; numbers = n; memory = next }) log backing) (sym same.1)
+  synced_absorbed e m next numbers (inr same) is =
+      subst (λ (n : Numbers). IsSynced of_log of_backing (record e { absorbed = e.absorbed + 1; numbers = n; memory = next })) (sym same.1)
       (record { written_back = is.written_back; written = is.written })
 
 -- ---- numbers that fit
@@ -292,5 +295,6 @@ module _ {L B : Type 0} where
       let low : k ≤ 2 ^ 48 = omega arith in
       omega (arith, most, under, low)
 
-  pub current_fits : (e : EngineContent L B) (log backing : State) (come : Entry) (m : MemoryContent) → IsEngine e log backing → Keeps come e.memory m → m.current.id < 2 ^ 63
-  current_fits e log backing come m is keeps = omega (arith, id_kept e log backing come m is keeps, is.memory.count, is.ordered.ids, is.ordered.logged, is.ordered.tried)
+module _ {L B : Type 0} {of_log : L → State} {of_backing : B → State} where
+  pub current_fits : (e : EngineContent L B) (come : Entry) (m : MemoryContent) → IsEngine of_log of_backing e → Keeps come e.memory m → m.current.id < 2 ^ 63
+  current_fits e come m is keeps = omega (arith, id_kept e come m is keeps, is.memory.count, is.ordered.ids, is.ordered.logged, is.ordered.tried)

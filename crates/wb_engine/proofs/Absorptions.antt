@@ -17,7 +17,7 @@ use Rattle.wb_crash.specs.Images.{IsOrdered, IsLogImage, IsBackingImage}
 use Rattle.wb_crash.specs.Safety.{IsSafe}
 use Rattle.wb_crash.specs.declared.numbers.Numbers.{Numbers}
 use Rattle.wb_crash.proofs.Lines.{engine_along, grown}
-use Rattle.wb_engine.specs.Memory.{MemoryContent, segment_at}
+use Rattle.wb_memory.specs.Memory.{MemoryContent, segment_at}
 use Rattle.wb_engine.specs.Content.{EngineContent, IsEngine}
 use Rattle.wb_engine.specs.Standing.{Standing, IsListed}
 use Rattle.wb_engine.proofs.Held.{AreHeld, AreInTurn, held_push, held_front, held_last, held_same, turn_front, turn_last}
@@ -99,13 +99,13 @@ safe_sealed {g} {line} {e} ids safe = record {
   on_backing = record { shown = λ y shows. backs_sealed line e y (safe.on_backing.shown y shows) };
 }
 
-module _ {L B : Type 0} where
+module _ {L B : Type 0} {of_log : L → State} {of_backing : B → State} where
   -- the open segment takes it
-  pub standing_pushed : (e : EngineContent L B) (m : MemoryContent) (log backing : State) (base : Image) (h : List HistoryEntry) (entry : HistoryEntry) → IsEngine e log backing
+  pub standing_pushed : (e : EngineContent L B) (m : MemoryContent) (base : Image) (h : List HistoryEntry) (entry : HistoryEntry) → IsEngine of_log of_backing e
       → m.sealed ≡ e.memory.sealed → m.current.id ≡ e.memory.current.id → m.logged ≡ e.memory.logged
       → ((entries : List HistoryEntry) → StandsFor e.memory.current.blocks entries → StandsFor m.current.blocks (entries ++ entry ∷ []))
-      → Standing e log backing base h → Standing (record e { absorbed = e.absorbed + 1; memory = m }) log backing base (h ++ entry ∷ [])
-  standing_pushed e m log backing base h entry is sealed same_id same_logged step stands =
+      → Standing of_log of_backing e base h → Standing of_log of_backing (record e { absorbed = e.absorbed + 1; memory = m }) base (h ++ entry ∷ [])
+  standing_pushed e m base h entry is sealed same_id same_logged step stands =
       let n : ℕ = places e.geometry in
       let first : ℕ = e.numbers.first in
       let old : ℕ → List HistoryEntry = segment n first h in
@@ -140,11 +140,11 @@ module _ {L B : Type 0} where
       }
 
   -- the open segment is full, and sealed
-  pub standing_sealed : (e : EngineContent L B) (m : MemoryContent) (s : Segment) (log backing : State) (base : Image) (h : List HistoryEntry)
+  pub standing_sealed : (e : EngineContent L B) (m : MemoryContent) (s : Segment) (base : Image) (h : List HistoryEntry)
       → m.sealed ≡ e.memory.sealed ++ s ∷ [] → s.id ≡ e.memory.current.id → s.blocks ≡ e.memory.current.blocks → m.logged ≡ e.memory.logged → e.numbers.sealed + 1 ≤ 2 ^ 48
       → StandsFor m.current.blocks (segment (places e.geometry) e.numbers.first h m.current.id)
-      → Standing e log backing base h → Standing (record e { numbers = record e.numbers { sealed = e.numbers.sealed + 1 }; memory = m }) log backing base h
-  standing_sealed e m s log backing base h more id blocks same_logged ids next is =
+      → Standing of_log of_backing e base h → Standing of_log of_backing (record e { numbers = record e.numbers { sealed = e.numbers.sealed + 1 }; memory = m }) base h
+  standing_sealed e m s base h more id blocks same_logged ids next is =
       let list : ℕ → List HistoryEntry = segment (places e.geometry) e.numbers.first h in
       let fronts : AreHeld list e.memory.sealed = held_front list e.memory.sealed e.memory.current is.memory in
       let full : StandsFor s.blocks (list s.id) =

@@ -21,7 +21,7 @@ use Rattle.wb_crash.specs.declared.numbers.Numbers.{Numbers}
 use Rattle.wb_crash.proofs.Shown.{shown_before}
 use Rattle.wb_crash.proofs.Halves.{safe_log_kept, safe_back_tried, safe_back}
 use Rattle.wb_crash.proofs.Crash.{back_batch_word}
-use Rattle.wb_engine.specs.Memory.{MemoryContent, live, segment_at}
+use Rattle.wb_memory.specs.Memory.{MemoryContent, live, segment_at}
 use Rattle.wb_engine.specs.Content.{EngineContent}
 use Rattle.wb_engine.specs.Standing.{Standing, IsSynced, IsListed, line}
 use Rattle.wb_engine.specs.Stepping.{MayBack, IsPlanOf, IsStep}
@@ -79,10 +79,12 @@ module _ {L B : Type 0} where
   same_line old new base h geometry first =
       ap (λ (g : Geometry). line_of (places g) new.numbers.first base h) geometry ∙ ap (λ (k : ℕ). line_of (places old.geometry) k base h) first
 
+module _ {L B : Type 0} {of_log : L → State} {of_backing : B → State} where
   -- such an engine stands for what it stood for
-  moved_stands : (old new : EngineContent L B) (n : Numbers) (log new_log backing new_backing : State) (base : Image) (h : List HistoryEntry) → IsMoved old new n → IsSameButBack old.numbers n
-      → old.down ≡ None → OnlyRead log new_log → Standing old log backing base h → IsSafe old.geometry (line old base h) n new_log new_backing → Standing new new_log new_backing base h
-  moved_stands old new n log new_log backing new_backing base h moved numbers up read stands safe =
+  moved_stands : (old new : EngineContent L B) (n : Numbers) (base : Image) (h : List HistoryEntry) → IsMoved old new n → IsSameButBack old.numbers n
+      → old.down ≡ None → OnlyRead (of_log old.log) (of_log new.log) → Standing of_log of_backing old base h
+      → IsSafe old.geometry (line old base h) n (of_log new.log) (of_backing new.backing) → Standing of_log of_backing new base h
+  moved_stands old new n base h moved numbers up read stands safe =
       let lines : line old base h ≡ line new base h = sym (same_line old new base h moved.geometry (ap (λ (m : Numbers). m.first) moved.numbers ∙ numbers.first)) in
       let recorded : new.numbers.recorded ≡ old.numbers.recorded = ap (λ (m : Numbers). m.recorded) moved.numbers ∙ numbers.recorded in
       let logged : new.numbers.logged ≡ old.numbers.logged = ap (λ (m : Numbers). m.logged) moved.numbers ∙ numbers.logged in
@@ -94,33 +96,33 @@ module _ {L B : Type 0} where
             subst (λ (m : MemoryContent). IsListed (metas_at m.logged s) ((line new base h).list s)) (sym moved.memory)
             (subst (λ (l : Line). IsListed (metas_at old.memory.logged s) (l.list s)) lines (stands.logged s (omega (arith, low, recorded)) (omega (arith, high, logged))));
         safe =
-            subst (λ (m : Numbers). IsSafe new.geometry (line new base h) m new_log new_backing) (sym moved.numbers)
-            (subst (λ (g : Geometry). IsSafe g (line new base h) n new_log new_backing) (sym moved.geometry)
-            (subst (λ (l : Line). IsSafe old.geometry l n new_log new_backing) lines safe));
+            subst (λ (m : Numbers). IsSafe new.geometry (line new base h) m (of_log new.log) (of_backing new.backing)) (sym moved.numbers)
+            (subst (λ (g : Geometry). IsSafe g (line new base h) n (of_log new.log) (of_backing new.backing)) (sym moved.geometry)
+            (subst (λ (l : Line). IsSafe old.geometry l n (of_log new.log) (of_backing new.backing)) lines safe));
         record_is = λ x shows. inl (record_up stands up x (shown_before read.crash read.content x shows) ∙ sym recorded);
       }
 
   -- a step in which the log was only read
-  pub read_step : (old new : EngineContent L B) (n : Numbers) (log new_log backing new_backing : State) → IsMoved old new n → IsSameButBack old.numbers n → old.down ≡ None → OnlyRead log new_log
-      → IsSameDevice backing new_backing
-      → (IsSynced old log backing → new.down ≡ None → NothingPending new_backing)
-      → ((base : Image) (h : List HistoryEntry) → Standing old log backing base h → IsSafe old.geometry (line old base h) n new_log new_backing)
-      → ((base : Image) (h : List HistoryEntry) → Standing old log backing base h → ContentPasses (PutsPartly h) backing new_backing)
-      → ((base : Image) (h : List HistoryEntry) → Standing old log backing base h → Passes (PutsPartly h) backing new_backing)
-      → ((base : Image) (h : List HistoryEntry) → Standing old log backing base h
-      → CrashInCall old.geometry (line old base h) old.numbers.stable old.numbers.tried log new_log backing new_backing)
-      → IsStep old new log new_log backing new_backing
-  read_step old new n log new_log backing new_backing moved numbers up read same durable safe changed left crash =
+  pub read_step : (old new : EngineContent L B) (n : Numbers) → IsMoved old new n → IsSameButBack old.numbers n → old.down ≡ None → OnlyRead (of_log old.log) (of_log new.log)
+      → IsSameDevice (of_backing old.backing) (of_backing new.backing)
+      → (IsSynced of_log of_backing old → new.down ≡ None → NothingPending (of_backing new.backing))
+      → ((base : Image) (h : List HistoryEntry) → Standing of_log of_backing old base h → IsSafe old.geometry (line old base h) n (of_log new.log) (of_backing new.backing))
+      → ((base : Image) (h : List HistoryEntry) → Standing of_log of_backing old base h → ContentPasses (PutsPartly h) (of_backing old.backing) (of_backing new.backing))
+      → ((base : Image) (h : List HistoryEntry) → Standing of_log of_backing old base h → Passes (PutsPartly h) (of_backing old.backing) (of_backing new.backing))
+      → ((base : Image) (h : List HistoryEntry) → Standing of_log of_backing old base h
+      → CrashInCall old.geometry (line old base h) old.numbers.stable old.numbers.tried (of_log old.log) (of_log new.log) (of_backing old.backing) (of_backing new.backing))
+      → IsStep of_log of_backing old new
+  read_step old new n moved numbers up read same durable safe changed left crash =
       let stable : new.numbers.stable ≡ old.numbers.stable = ap (λ (m : Numbers). m.stable) moved.numbers ∙ numbers.stable in
       let logged : new.numbers.logged ≡ old.numbers.logged = ap (λ (m : Numbers). m.logged) moved.numbers ∙ numbers.logged in
       record {
         moves = record {
-          stands = λ base h stands. moved_stands old new n log new_log backing new_backing base h moved numbers up read stands (safe base h stands);
+          stands = λ base h stands. moved_stands old new n base h moved numbers up read stands (safe base h stands);
           changed = changed;
           left = left;
           synced = λ is. record {
             written_back = durable is;
-            written = λ _ all. read_pending log new_log read (is.written up (sym stable ∙ all ∙ logged));
+            written = λ _ all. read_pending (of_log old.log) (of_log new.log) read (is.written up (sym stable ∙ all ∙ logged));
           };
           geometry = moved.geometry;
           absorbed = moved.absorbed;
@@ -131,84 +133,91 @@ module _ {L B : Type 0} where
           same_backing = same;
         };
         crash = λ base h stands.
-            subst (λ (high : ℕ). CrashInCall old.geometry (line old base h) old.numbers.stable high log new_log backing new_backing)
+            subst (λ (high : ℕ). CrashInCall old.geometry (line old base h) old.numbers.stable high (of_log old.log) (of_log new.log) (of_backing old.backing) (of_backing new.backing))
             (sym (ap (λ (m : Numbers). m.tried) moved.numbers ∙ numbers.tried)) (crash base h stands);
       }
 
   -- ---- the segment behind the last that is back
 
   -- the plan writes what the segment's entries do
-  plan_writes : (e : EngineContent L B) (log backing : State) (base : Image) (h : List HistoryEntry) (planned : List TextBlock) → MayBack e.numbers
-      → IsPlanOf e.geometry (e.numbers.back + 1) (metas_at e.memory.logged (e.numbers.back + 1)) log planned → Standing e log backing base h
+  plan_writes : (e : EngineContent L B) (base : Image) (h : List HistoryEntry) (planned : List TextBlock) → MayBack e.numbers
+      → IsPlanOf e.geometry (e.numbers.back + 1) (metas_at e.memory.logged (e.numbers.back + 1)) (of_log e.log) planned → Standing of_log of_backing e base h
       → WritesLast planned ((line e base h).list (e.numbers.back + 1))
-  plan_writes e log backing base h planned may plan stands =
+  plan_writes e base h planned may plan stands =
       let ordered = stands.safe.ordered in
-      let told = is_told log.content stands.told in
+      let told = is_told (of_log e.log).content stands.told in
       record {
         each = λ k.
             plan.put told.0 told.1 k
-            ∙ read_writes e log backing base h told.0 (e.numbers.back + 1) stands told.1 (omega (arith, ordered.recorded)) (omega (arith, may, ordered.stable)) k;
+            ∙ read_writes e base h told.0 (e.numbers.back + 1) stands told.1 (omega (arith, ordered.recorded)) (omega (arith, may, ordered.stable)) k;
       }
 
+module _ {L B : Type 0} where
   plan_alike : (e : EngineContent L B) (base : Image) (h : List HistoryEntry) (planned : List TextBlock) → WritesLast planned ((line e base h).list (e.numbers.back + 1))
       → WritesAlike (entries_of planned) (span (line e base h).list e.numbers.back (e.numbers.back + 1 - e.numbers.back))
   plan_alike e base h planned writes k = writes.each k ∙ ap (last_write k) (one_segment (line e base h).list e.numbers.back)
 
+module _ {L B : Type 0} {of_log : L → State} {of_backing : B → State} where
   -- whichever way the writing ends
-  module _ (old : EngineContent L B) (log new_log backing new_backing : State) (planned : List TextBlock) (log_device : IsDevice log) (device : IsDevice backing) (may : MayBack old.numbers)
-      (up : old.down ≡ None) (plan : IsPlanOf old.geometry (old.numbers.back + 1) (metas_at old.memory.logged (old.numbers.back + 1)) log planned) (read : OnlyRead log new_log)
-      (same : IsSameDevice backing new_backing) (pass : Passes (PutsPartly (entries_of planned)) backing new_backing) where
-    planned_left : (base : Image) (h : List HistoryEntry) → Standing old log backing base h → Passes (PutsPartly h) backing new_backing
+  module _ (old new : EngineContent L B) (planned : List TextBlock) (log_device : IsDevice (of_log old.log)) (device : IsDevice (of_backing old.backing)) (may : MayBack old.numbers)
+      (up : old.down ≡ None) (plan : IsPlanOf old.geometry (old.numbers.back + 1) (metas_at old.memory.logged (old.numbers.back + 1)) (of_log old.log) planned)
+      (read : OnlyRead (of_log old.log) (of_log new.log)) (same : IsSameDevice (of_backing old.backing) (of_backing new.backing))
+      (pass : Passes (PutsPartly (entries_of planned)) (of_backing old.backing) (of_backing new.backing)) where
+    planned_left : (base : Image) (h : List HistoryEntry) → Standing of_log of_backing old base h → Passes (PutsPartly h) (of_backing old.backing) (of_backing new.backing)
     planned_left base h stands =
         weaker (λ x y left put. puts_of_segment (places old.geometry) old.numbers.first (old.numbers.back + 1) h x y put)
-        (crash-partly_written (AreDistinct-arranged planned plan.arranged) (plan_writes old log backing base h planned may plan stands) pass)
+        (crash-partly_written (AreDistinct-arranged planned plan.arranged) (plan_writes old base h planned may plan stands) pass)
 
-    planned_crash : (base : Image) (h : List HistoryEntry) → Standing old log backing base h
-        → CrashInCall old.geometry (line old base h) old.numbers.stable old.numbers.tried log new_log backing new_backing
+    planned_crash : (base : Image) (h : List HistoryEntry) → Standing of_log of_backing old base h
+        → CrashInCall old.geometry (line old base h) old.numbers.stable old.numbers.tried (of_log old.log) (of_log new.log) (of_backing old.backing) (of_backing new.backing)
     planned_crash base h stands =
         back_batch_word (old.numbers.back + 1) (entries_of planned) stands.safe (omega arith) (omega (arith, may))
-        (plan_alike old base h planned (plan_writes old log backing base h planned may plan stands)) log_device device read.crash pass
+        (plan_alike old base h planned (plan_writes old base h planned may plan stands)) log_device device read.crash pass
 
     -- the segment is written back
-    pub backed : (new : EngineContent L B) → IsMoved old new (put_up_to (old.numbers.back + 1) old.numbers) → NothingPending new_backing
-        → ContentPasses (λ x y. y ≡ after x (entries_of planned)) backing new_backing → IsStep old new log new_log backing new_backing
-    backed new moved nothing content =
-        read_step old new (put_up_to (old.numbers.back + 1) old.numbers) log new_log backing new_backing moved (put_numbers (old.numbers.back + 1) old.numbers) up read same (λ is _. nothing)
+    pub backed : IsMoved old new (put_up_to (old.numbers.back + 1) old.numbers) → NothingPending (of_backing new.backing)
+        → ContentPasses (λ x y. y ≡ after x (entries_of planned)) (of_backing old.backing) (of_backing new.backing) → IsStep of_log of_backing old new
+    backed moved nothing content =
+        read_step old new (put_up_to (old.numbers.back + 1) old.numbers) moved (put_numbers (old.numbers.back + 1) old.numbers) up read same (λ is _. nothing)
         (λ base h stands.
         safe_back (old.numbers.back + 1) (entries_of planned) (safe_log_kept stands.safe read.crash read.content) (omega arith) (omega (arith, may))
-        (plan_alike old base h planned (plan_writes old log backing base h planned may plan stands)) nothing content)
+        (plan_alike old base h planned (plan_writes old base h planned may plan stands)) nothing content)
         (λ base h stands.
         content_weaker
         (λ x y told is.
         puts_of_segment (places old.geometry) old.numbers.first (old.numbers.back + 1) h x y
         (subst (PutsPartly ((line old base h).list (old.numbers.back + 1)) x) (sym is) (puts_all ((line old base h).list (old.numbers.back + 1)) x)))
-        (content-written (plan_writes old log backing base h planned may plan stands) content))
+        (content-written (plan_writes old base h planned may plan stands) content))
         planned_left planned_crash
 
     -- some of its sectors are
-    pub partly_backed : (new : EngineContent L B) → IsMoved old new old.numbers → (new.down ≡ None → ⊥) → ContentPasses (PutsPartly (entries_of planned)) backing new_backing
-        → IsStep old new log new_log backing new_backing
-    partly_backed new moved down content =
-        read_step old new old.numbers log new_log backing new_backing moved (same_numbers old.numbers) up read same (λ is none. absurd (down none))
+    pub partly_backed : IsMoved old new old.numbers → (new.down ≡ None → ⊥) → ContentPasses (PutsPartly (entries_of planned)) (of_backing old.backing) (of_backing new.backing)
+        → IsStep of_log of_backing old new
+    partly_backed moved down content =
+        read_step old new old.numbers moved (same_numbers old.numbers) up read same (λ is none. absurd (down none))
         (λ base h stands.
         safe_back_tried (old.numbers.back + 1) (entries_of planned) (safe_log_kept stands.safe read.crash read.content) (omega arith) (omega (arith, may))
-        (plan_alike old base h planned (plan_writes old log backing base h planned may plan stands)) pass content)
+        (plan_alike old base h planned (plan_writes old base h planned may plan stands)) pass content)
         (λ base h stands.
         content_weaker (λ x y told put. puts_of_segment (places old.geometry) old.numbers.first (old.numbers.back + 1) h x y put)
-        (content-partly_written (AreDistinct-arranged planned plan.arranged) (plan_writes old log backing base h planned may plan stands) content))
+        (content-partly_written (AreDistinct-arranged planned plan.arranged) (plan_writes old base h planned may plan stands) content))
         planned_left planned_crash
 
   -- the backing device isn't called
-  pub unbacked : (old new : EngineContent L B) (log new_log backing : State) → IsDevice log → IsDevice backing → old.down ≡ None → OnlyRead log new_log → IsMoved old new old.numbers
-      → IsStep old new log new_log backing backing
-  unbacked old new log new_log backing log_device device up read moved =
-      read_step old new old.numbers log new_log backing backing moved (same_numbers old.numbers) up read (same_device backing) (λ is _. is.written_back up)
-      (λ base h stands. safe_log_kept stands.safe read.crash read.content)
-      (λ base h stands. content_same (λ x told. puts_same h x) refl)
-      (λ base h stands. passes_same (λ x left. puts_same h x))
+  pub unbacked : (old new : EngineContent L B) → IsDevice (of_log old.log) → IsDevice (of_backing old.backing) → old.down ≡ None → OnlyRead (of_log old.log) (of_log new.log) → IsMoved old new old.numbers
+      → (of_backing new.backing) ≡ (of_backing old.backing) → IsStep of_log of_backing old new
+  unbacked old new log_device device up read moved kept =
+      read_step old new old.numbers moved (same_numbers old.numbers) up read
+      (subst (λ (s : State). IsSameDevice (of_backing old.backing) s) (sym kept) (same_device (of_backing old.backing)))
+      (λ is _. subst NothingPending (sym kept) (is.written_back up))
       (λ base h stands.
-      back_batch_word old.numbers.back [] stands.safe (omega arith) stands.safe.ordered.back (none_alike (line old base h).list old.numbers.back) log_device device read.crash
-      (passes_same (λ x left. puts_same [] x)))
+      subst (λ (s : State). IsSafe old.geometry (line old base h) old.numbers (of_log new.log) s) (sym kept) (safe_log_kept stands.safe read.crash read.content))
+      (λ base h stands. subst (λ (s : State). ContentPasses (PutsPartly h) (of_backing old.backing) s) (sym kept) (content_same (λ x told. puts_same h x) refl))
+      (λ base h stands. subst (λ (s : State). Passes (PutsPartly h) (of_backing old.backing) s) (sym kept) (passes_same (λ x left. puts_same h x)))
+      (λ base h stands.
+      subst (λ (s : State). CrashInCall old.geometry (line old base h) old.numbers.stable old.numbers.tried (of_log old.log) (of_log new.log) (of_backing old.backing) s) (sym kept)
+      (back_batch_word old.numbers.back [] stands.safe (omega arith) stands.safe.ordered.back (none_alike (line old base h).list old.numbers.back) log_device device read.crash
+      (passes_same (λ x left. puts_same [] x))))
 
 -- ---- results
 

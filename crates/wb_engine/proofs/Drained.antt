@@ -21,9 +21,9 @@ use Rattle.wb_engine.proofs.Among.{puts_same}
 
 -- ---- steps one after another
 
-module _ {L B : Type 0} where
-  pub moves_none : (e : EngineContent L B) (log backing : State) → Moves e e log log backing backing
-  moves_none e log backing = record {
+module _ {L B : Type 0} {of_log : L → State} {of_backing : B → State} where
+  pub moves_none : (e : EngineContent L B) → Moves of_log of_backing e e
+  moves_none e = record {
     stands = λ base h stands. stands;
     changed = λ base h stands. content_same (λ x told. puts_same h x) refl;
     left = λ base h stands. passes_same (λ x left. puts_same h x);
@@ -33,12 +33,11 @@ module _ {L B : Type 0} where
     first = refl;
     sealed = refl;
     stable = omega arith;
-    same_log = same_device log;
-    same_backing = same_device backing;
+    same_log = same_device (of_log e.log);
+    same_backing = same_device (of_backing e.backing);
   }
 
-  pub moves_joined : {old mid new : EngineContent L B} {log mid_log new_log backing mid_backing new_backing : State} → Moves old mid log mid_log backing mid_backing
-      → Moves mid new mid_log new_log mid_backing new_backing → Moves old new log new_log backing new_backing
+  pub moves_joined : {old mid new : EngineContent L B} → Moves of_log of_backing old mid → Moves of_log of_backing mid new → Moves of_log of_backing old new
   moves_joined first second = record {
     stands = λ base h stands. second.stands base h (first.stands base h stands);
     changed = λ base h stands.
@@ -73,40 +72,40 @@ failed_less n m was now which up down same = omega (arith, ap up_turns up, ap up
 done_less : (n m k : Numbers) (was now : Option Which) → was ≡ None → now ≡ None → m ≡ k → turns_left k < turns_left n → turns_left m + up_turns now < turns_left n + up_turns was
 done_less n m k was now up still moved less = omega (arith, ap up_turns up, ap up_turns still, ap turns_left moved, less)
 
-module _ {L B T : Type 0} where
-  logs_less : (old new : EngineContent L B) (log new_log : State) (r : Result T Which) → old.down ≡ None → MayLog old.geometry old.numbers → LogsNext old new log new_log r → turns_of new < turns_of old
-  logs_less old new log new_log (Ok x) up may does =
+module _ {L B T : Type 0} {of_log : L → State} {of_backing : B → State} where
+  logs_less : (old new : EngineContent L B) (r : Result T Which) → old.down ≡ None → MayLog old.geometry old.numbers → LogsNext of_log of_backing old new r → turns_of new < turns_of old
+  logs_less old new (Ok x) up may does =
       done_less old.numbers new.numbers (written old.numbers) old.down new.down up does.ok.1 does.ok.0 (omega (arith, may.0))
-  logs_less old new log new_log (Err which) up may does =
+  logs_less old new (Err which) up may does =
       failed_less old.numbers new.numbers old.down new.down Log up does.failed.2 (ap turns_left does.failed.1)
 
-  syncs_less : (old new : EngineContent L B) (log new_log : State) (r : Result T Which) → old.down ≡ None → MaySync old.numbers → SyncsLog old new log new_log r → turns_of new < turns_of old
-  syncs_less old new log new_log (Ok x) up may does =
+  syncs_less : (old new : EngineContent L B) (r : Result T Which) → old.down ≡ None → MaySync old.numbers → SyncsLog of_log of_backing old new r → turns_of new < turns_of old
+  syncs_less old new (Ok x) up may does =
       done_less old.numbers new.numbers (synced old.numbers) old.down new.down up does.ok.1 does.ok.0 (omega (arith, may))
-  syncs_less old new log new_log (Err which) up may does =
+  syncs_less old new (Err which) up may does =
       failed_less old.numbers new.numbers old.down new.down Log up does.failed.2 (ap turns_left does.failed.1)
 
-  backs_less : (old new : EngineContent L B) (log new_log backing new_backing : State) (r : Result T Which) → old.down ≡ None → MayBack old.numbers
-      → WritesBack old new log new_log backing new_backing r → turns_of new < turns_of old
-  backs_less old new log new_log backing new_backing (Ok x) up may does =
+  backs_less : (old new : EngineContent L B) (r : Result T Which) → old.down ≡ None → MayBack old.numbers
+      → WritesBack of_log of_backing old new r → turns_of new < turns_of old
+  backs_less old new (Ok x) up may does =
       done_less old.numbers new.numbers (put_up_to (old.numbers.back + 1) old.numbers) old.down new.down up does.ok.1 does.ok.0 (omega (arith, may))
-  backs_less old new log new_log backing new_backing (Err which) up may does =
+  backs_less old new (Err which) up may does =
       failed_less old.numbers new.numbers old.down new.down which up does.failed.1 (ap turns_left does.failed.0)
 
-  records_less : (old new : EngineContent L B) (log new_log : State) (r : Result T Which) → old.down ≡ None → MayRecord old.numbers → PutsRecord old new log new_log r → turns_of new < turns_of old
-  records_less old new log new_log (Ok x) up may does =
+  records_less : (old new : EngineContent L B) (r : Result T Which) → old.down ≡ None → MayRecord old.numbers → PutsRecord of_log of_backing old new r → turns_of new < turns_of old
+  records_less old new (Ok x) up may does =
       done_less old.numbers new.numbers (recording old.numbers) old.down new.down up does.ok.1 does.ok.0 (omega (arith, may))
-  records_less old new log new_log (Err which) up may does =
+  records_less old new (Err which) up may does =
       failed_less old.numbers new.numbers old.down new.down Log up does.failed.2 (ap turns_left does.failed.1)
 
-module _ {L B : Type 0} where
-  pub turn_less : (old new : EngineContent L B) (log new_log backing new_backing : State) (r : Result Turn Which) → old.down ≡ None → (r ≡ Ok turn.Idle → ⊥)
-      → IsTurn old new log new_log backing new_backing r → turns_of new < turns_of old
-  turn_less old new log new_log backing new_backing r up busy (inl did) = logs_less old new log new_log r up did.0 did.1
-  turn_less old new log new_log backing new_backing r up busy (inr (inl did)) = syncs_less old new log new_log r up did.1 did.2
-  turn_less old new log new_log backing new_backing r up busy (inr (inr (inl did))) = backs_less old new log new_log backing new_backing r up did.2 did.3
-  turn_less old new log new_log backing new_backing r up busy (inr (inr (inr (inl did)))) = records_less old new log new_log r up did.3 did.4
-  turn_less old new log new_log backing new_backing r up busy (inr (inr (inr (inr did)))) = absurd (busy did.4)
+module _ {L B : Type 0} {of_log : L → State} {of_backing : B → State} where
+  pub turn_less : (old new : EngineContent L B) (r : Result Turn Which) → old.down ≡ None → (r ≡ Ok turn.Idle → ⊥)
+      → IsTurn of_log of_backing old new r → turns_of new < turns_of old
+  turn_less old new r up busy (inl did) = logs_less old new r up did.0 did.1
+  turn_less old new r up busy (inr (inl did)) = syncs_less old new r up did.1 did.2
+  turn_less old new r up busy (inr (inr (inl did))) = backs_less old new r up did.2 did.3
+  turn_less old new r up busy (inr (inr (inr (inl did)))) = records_less old new r up did.3 did.4
+  turn_less old new r up busy (inr (inr (inr (inr did)))) = absurd (busy did.4)
 
 -- ---- what failed
 
@@ -126,8 +125,8 @@ module _ {L B : Type 0} (of_log : L → State) (of_backing : B → State) where
   }
 
   -- the log failed, and the backing device wasn't called
-  log_failed : (old new : EngineContent L B) → new.down ≡ Some Log → (of_log old.log).faults ≤ (of_log new.log).faults → Rose (of_log old.log).faults (of_log new.log).faults → new.backing ≡ old.backing
-      → HasCauses old new
+  log_failed : (old new : EngineContent L B) → new.down ≡ Some Log → (of_log old.log).faults ≤ (of_log new.log).faults → Rose (of_log old.log).faults (of_log new.log).faults
+      → new.backing ≡ old.backing → HasCauses old new
   log_failed old new down later rose backing =
       let kept : (of_backing new.backing).faults ≡ (of_backing old.backing).faults = ap (λ (b : B). (of_backing b).faults) backing in
       record {
@@ -139,20 +138,19 @@ module _ {L B : Type 0} (of_log : L → State) (of_backing : B → State) where
         };
       }
 
-  logs_causes : {T : Type 0} (old new : EngineContent L B) (r : Result T Which) → LogsNext old new (of_log old.log) (of_log new.log) r → HasCauses old new
+  logs_causes : {T : Type 0} (old new : EngineContent L B) (r : Result T Which) → LogsNext of_log of_backing old new r → HasCauses old new
   logs_causes old new (Ok x) does = causes_none old new does.ok.1 does.cause.kept (ap (λ (b : B). (of_backing b).faults) does.backing)
   logs_causes old new (Err which) does = log_failed old new does.failed.2 does.cause.later does.cause.failed does.backing
 
-  syncs_causes : {T : Type 0} (old new : EngineContent L B) (r : Result T Which) → SyncsLog old new (of_log old.log) (of_log new.log) r → HasCauses old new
+  syncs_causes : {T : Type 0} (old new : EngineContent L B) (r : Result T Which) → SyncsLog of_log of_backing old new r → HasCauses old new
   syncs_causes old new (Ok x) does = causes_none old new does.ok.1 does.cause.kept (ap (λ (b : B). (of_backing b).faults) does.backing)
   syncs_causes old new (Err which) does = log_failed old new does.failed.2 does.cause.later does.cause.failed does.backing
 
-  records_causes : {T : Type 0} (old new : EngineContent L B) (r : Result T Which) → PutsRecord old new (of_log old.log) (of_log new.log) r → HasCauses old new
+  records_causes : {T : Type 0} (old new : EngineContent L B) (r : Result T Which) → PutsRecord of_log of_backing old new r → HasCauses old new
   records_causes old new (Ok x) does = causes_none old new does.ok.1 does.cause.kept (ap (λ (b : B). (of_backing b).faults) does.backing)
   records_causes old new (Err which) does = log_failed old new does.failed.2 does.cause.later does.cause.failed does.backing
 
-  backs_causes : {T : Type 0} (old new : EngineContent L B) (r : Result T Which)
-      → WritesBack old new (of_log old.log) (of_log new.log) (of_backing old.backing) (of_backing new.backing) r → HasCauses old new
+  backs_causes : {T : Type 0} (old new : EngineContent L B) (r : Result T Which) → WritesBack of_log of_backing old new r → HasCauses old new
   backs_causes old new (Ok x) does = causes_none old new does.ok.1 (does.log_cause.kept (λ is. absurd (cc))) (does.backing_cause.kept (λ is. absurd (cc)))
   backs_causes old new (Err which) does = record {
     log_cause = record {
@@ -167,8 +165,7 @@ module _ {L B : Type 0} (of_log : L → State) (of_backing : B → State) where
     };
   }
 
-  pub turn_causes : (old new : EngineContent L B) (r : Result Turn Which) → old.down ≡ None
-      → IsTurn old new (of_log old.log) (of_log new.log) (of_backing old.backing) (of_backing new.backing) r → HasCauses old new
+  pub turn_causes : (old new : EngineContent L B) (r : Result Turn Which) → old.down ≡ None → IsTurn of_log of_backing old new r → HasCauses old new
   turn_causes old new r up (inl did) = logs_causes old new r did.1
   turn_causes old new r up (inr (inl did)) = syncs_causes old new r did.2
   turn_causes old new r up (inr (inr (inl did))) = backs_causes old new r did.3
@@ -191,22 +188,19 @@ module _ {L B : Type 0} (of_log : L → State) (of_backing : B → State) where
 
   -- some turns were made, and only the last of them failed
   pub record IsDraining (old mid : EngineContent L B) : Type 0 where
-    pub moves : Moves old mid (of_log old.log) (of_log mid.log) (of_backing old.backing) (of_backing mid.backing)
+    pub moves : Moves of_log of_backing old mid
     pub causes : HasCauses old mid
 
   pub draining_none : (e : EngineContent L B) → e.down ≡ None → IsDraining e e
-  draining_none e up = record { moves = moves_none e (of_log e.log) (of_backing e.backing); causes = causes_none e e up refl refl }
+  draining_none e up = record { moves = moves_none e; causes = causes_none e e up refl refl }
 
-  pub draining_more : (old mid new : EngineContent L B) (r : Result Turn Which) → IsDraining old mid → mid.down ≡ None
-      → Moves mid new (of_log mid.log) (of_log new.log) (of_backing mid.backing) (of_backing new.backing)
-      → IsTurn mid new (of_log mid.log) (of_log new.log) (of_backing mid.backing) (of_backing new.backing) r → IsDraining old new
+  pub draining_more : (old mid new : EngineContent L B) (r : Result Turn Which) → IsDraining old mid → mid.down ≡ None → Moves of_log of_backing mid new → IsTurn of_log of_backing mid new r → IsDraining old new
   draining_more old mid new r so_far up moves turned = record {
     moves = moves_joined so_far.moves moves;
     causes = causes_joined old mid new up so_far.causes (turn_causes mid new r up turned);
   }
 
-  pub drained : (old new : EngineContent L B) → IsDraining old new → (new.down ≡ None → new.numbers.recorded ≡ new.numbers.sealed)
-      → IsDrained old new (of_log old.log) (of_log new.log) (of_backing old.backing) (of_backing new.backing)
+  pub drained : (old new : EngineContent L B) → IsDraining old new → (new.down ≡ None → new.numbers.recorded ≡ new.numbers.sealed) → IsDrained of_log of_backing old new
   drained old new so_far done = record { moves = so_far.moves; done = done; log_cause = so_far.causes.log_cause; backing_cause = so_far.causes.backing_cause }
 
 -- where there was nothing to do, all that is sealed is recorded
@@ -233,20 +227,20 @@ record IsIdle {L B : Type 0} (old new : EngineContent L B) : Type 0 where
   no_back : MayBack old.numbers → ⊥
   no_record : MayRecord old.numbers → ⊥
 
-idle_is : {L B : Type 0} (old new : EngineContent L B) (log new_log backing new_backing : State) (r : Result Turn Which) → r ≡ Ok turn.Idle → IsTurn old new log new_log backing new_backing r → IsIdle old new
-idle_is old new log new_log backing new_backing r is (inl did) = absurd (let says : turn.Idle ≡ turn.Logged = subst (Says turn.Logged) is did.2 in cc)
-idle_is old new log new_log backing new_backing r is (inr (inl did)) = absurd (let says : turn.Idle ≡ turn.Synced = subst (Says turn.Synced) is did.3 in cc)
-idle_is old new log new_log backing new_backing r is (inr (inr (inl did))) = absurd (let says : turn.Idle ≡ turn.Backed = subst (Says turn.Backed) is did.4 in cc)
-idle_is old new log new_log backing new_backing r is (inr (inr (inr (inl did)))) = absurd (let says : turn.Idle ≡ turn.Recorded = subst (Says turn.Recorded) is did.5 in cc)
-idle_is old new log new_log backing new_backing r is (inr (inr (inr (inr did)))) = record { same = did.5; no_log = did.0; no_sync = did.1; no_back = did.2; no_record = did.3 }
+idle_is : {L B : Type 0} {of_log : L → State} {of_backing : B → State} (old new : EngineContent L B) (r : Result Turn Which) → r ≡ Ok turn.Idle → IsTurn of_log of_backing old new r → IsIdle old new
+idle_is old new r is (inl did) = absurd (let says : turn.Idle ≡ turn.Logged = subst (Says turn.Logged) is did.2 in cc)
+idle_is old new r is (inr (inl did)) = absurd (let says : turn.Idle ≡ turn.Synced = subst (Says turn.Synced) is did.3 in cc)
+idle_is old new r is (inr (inr (inl did))) = absurd (let says : turn.Idle ≡ turn.Backed = subst (Says turn.Backed) is did.4 in cc)
+idle_is old new r is (inr (inr (inr (inl did)))) = absurd (let says : turn.Idle ≡ turn.Recorded = subst (Says turn.Recorded) is did.5 in cc)
+idle_is old new r is (inr (inr (inr (inr did)))) = record { same = did.5; no_log = did.0; no_sync = did.1; no_back = did.2; no_record = did.3 }
 
-pub idle_stays : {L B : Type 0} (old new : EngineContent L B) (log new_log backing new_backing : State) (r : Result Turn Which) → r ≡ Ok turn.Idle → IsTurn old new log new_log backing new_backing r → new ≡ old
-idle_stays old new log new_log backing new_backing r is turned = (idle_is old new log new_log backing new_backing r is turned).same
+pub idle_stays : {L B : Type 0} {of_log : L → State} {of_backing : B → State} (old new : EngineContent L B) (r : Result Turn Which) → r ≡ Ok turn.Idle → IsTurn of_log of_backing old new r → new ≡ old
+idle_stays old new r is turned = (idle_is old new r is turned).same
 
-pub idle_recorded : {L B : Type 0} (old new : EngineContent L B) (log new_log backing new_backing : State) (r : Result Turn Which) → IsOrdered old.geometry old.numbers → r ≡ Ok turn.Idle
-    → IsTurn old new log new_log backing new_backing r → new.numbers.recorded ≡ new.numbers.sealed
-idle_recorded {L} {B} old new log new_log backing new_backing r ordered is turned =
-    let none = idle_is old new log new_log backing new_backing r is turned in
+pub idle_recorded : {L B : Type 0} {of_log : L → State} {of_backing : B → State} (old new : EngineContent L B) (r : Result Turn Which) → IsOrdered old.geometry old.numbers → r ≡ Ok turn.Idle
+    → IsTurn of_log of_backing old new r → new.numbers.recorded ≡ new.numbers.sealed
+idle_recorded {L} {B} {of_log} {of_backing} old new r ordered is turned =
+    let none = idle_is old new r is turned in
     subst (λ (e : EngineContent L B). e.numbers.recorded ≡ e.numbers.sealed) (sym none.same)
     (nothing_to_do old.geometry old.numbers ordered none.no_log none.no_sync none.no_back none.no_record)
 

@@ -59,15 +59,16 @@ are_all g e ordered all = record {
   tried = omega (arith, all, ordered.recorded, ordered.back, ordered.stable, ordered.logged, ordered.tried);
 }
 
-module _ {L B : Type 0} where
+module _ {L B : Type 0} {of_log : L → State} {of_backing : B → State} where
   -- the sealed segments of an engine are no more than those that have an entry
-  pub sealed_last : (e : EngineContent L B) (log backing : State) → IsEngine e log backing → e.numbers.sealed ≤ last_id e
-  sealed_last e log backing is =
+  pub sealed_last : (e : EngineContent L B) → IsEngine of_log of_backing e → e.numbers.sealed ≤ last_id e
+  sealed_last e is =
       let n : ℕ = places e.geometry in
       let some : 1 ≤ n = (places_few e.geometry).0 in
       let more : e.absorbed / n ≤ (e.absorbed + n - 1) / n = le-div (e.absorbed / n) (e.absorbed + n - 1) n some (omega (arith, some, div-mul-le_self e.absorbed n)) in
       omega (arith, is.filled.sealed, more)
 
+module _ {L B : Type 0} where
   last_of : (old new : EngineContent L B) → new ≡ old → new.down ≡ None → old.down ≡ None
   last_of old new same up = ap (λ (e : EngineContent L B). e.down) (sym same) ∙ up
 
@@ -76,9 +77,9 @@ module _ {L B : Type 0} (of_log : L → State) (of_backing : B → State) where
   pub record IsFull (old filled : EngineContent L B) : Type 0 where
     pub rest : filled.absorbed % places filled.geometry ≡ 0
     pub cut : filled.numbers.sealed ≡ filled.numbers.first + filled.absorbed / places filled.geometry
-    pub stands : (base : Image) (h : List HistoryEntry) → Standing old (of_log old.log) (of_backing old.backing) base h
-        → (count : ℕ) × Standing filled (of_log filled.log) (of_backing filled.backing) base (h ++ replicate count (Void 0))
-    pub synced : IsSynced old (of_log old.log) (of_backing old.backing) → IsSynced filled (of_log filled.log) (of_backing filled.backing)
+    pub stands : (base : Image) (h : List HistoryEntry) → Standing of_log of_backing old base h
+        → (count : ℕ) × Standing of_log of_backing filled base (h ++ replicate count (Void 0))
+    pub synced : IsSynced of_log of_backing old → IsSynced of_log of_backing filled
     pub sealed : filled.numbers.sealed ≡ last_id old
     pub first : filled.numbers.first ≡ old.numbers.first
     pub stable : filled.numbers.stable ≡ old.numbers.stable
@@ -88,7 +89,7 @@ module _ {L B : Type 0} (of_log : L → State) (of_backing : B → State) where
   pub record IsEnded (old last : EngineContent L B) : Type 0 where
     pub filled : EngineContent L B
     pub full : IsFull old filled
-    pub drained : IsDrained filled last (of_log filled.log) (of_log last.log) (of_backing filled.backing) (of_backing last.backing)
+    pub drained : IsDrained of_log of_backing filled last
     pub ordered : last.down ≡ None → IsOrdered last.geometry last.numbers
 
   -- that was done where the engine was up, and else nothing
@@ -104,8 +105,8 @@ module _ {L B : Type 0} (of_log : L → State) (of_backing : B → State) where
     ended_sealed : last.numbers.sealed ≡ last_id old
     ended_sealed = ended.drained.moves.sealed ∙ ended.full.sealed
 
-    ended_stands : (base : Image) (h : List HistoryEntry) → Standing old (of_log old.log) (of_backing old.backing) base h
-        → (count : ℕ) × Standing last (of_log last.log) (of_backing last.backing) base (h ++ replicate count (Void 0))
+    ended_stands : (base : Image) (h : List HistoryEntry) → Standing of_log of_backing old base h
+        → (count : ℕ) × Standing of_log of_backing last base (h ++ replicate count (Void 0))
     ended_stands base h stands =
         let full = ended.full.stands base h stands in
         (full.0, ended.drained.moves.stands base (h ++ replicate full.0 (Void 0)) full.1)
@@ -114,7 +115,7 @@ module _ {L B : Type 0} (of_log : L → State) (of_backing : B → State) where
     ended_all up = are_all last.geometry last.numbers (ended.ordered up) (ended.drained.done up)
 
     -- the segments have places for the whole history
-    ended_room : (base : Image) (h : List HistoryEntry) → last.down ≡ None → Standing last (of_log last.log) (of_backing last.backing) base h
+    ended_room : (base : Image) (h : List HistoryEntry) → last.down ≡ None → Standing of_log of_backing last base h
         → length h ≤ places last.geometry * (last.numbers.recorded - last.numbers.first)
     ended_room base h up stands =
         let n : ℕ = places ended.filled.geometry in
@@ -125,7 +126,7 @@ module _ {L B : Type 0} (of_log : L → State) (of_backing : B → State) where
         ap (λ (g : Geometry). places g * (last.numbers.recorded - last.numbers.first)) moves.geometry ∙ ap (λ (m : ℕ). n * m) index in
         omega (arith, whole, stands.places, moves.absorbed, ended.full.rest, div-add-mod a n)
 
-    ended_content : last.down ≡ None → (base : Image) (h : List HistoryEntry) → Standing old (of_log old.log) (of_backing old.backing) base h
+    ended_content : last.down ≡ None → (base : Image) (h : List HistoryEntry) → Standing of_log of_backing old base h
         → (y : Image) → Told (of_backing last.backing) y → y ≡ after base h
     ended_content up base h stands y told =
         let at = ended_stands base h stands in
@@ -133,7 +134,7 @@ module _ {L B : Type 0} (of_log : L → State) (of_backing : B → State) where
         whole_image (line last base (h ++ voids at.0)) last.numbers y (omega (arith, all.recorded, all.back)) (all.stable ∙ sym all.recorded) (at.1.safe.on_backing.shown y (inl told))
         ∙ image_of_all (places last.geometry) last.numbers.first base h at.0 last.numbers.recorded (ended_room base (h ++ voids at.0) up at.1)
 
-    ended_empty : last.down ≡ None → (base : Image) (h : List HistoryEntry) → Standing old (of_log old.log) (of_backing old.backing) base h
+    ended_empty : last.down ≡ None → (base : Image) (h : List HistoryEntry) → Standing of_log of_backing old base h
         → (x : Image) → Told (of_log last.log) x → IsChain old.geometry x []
     ended_empty up base h stands x told =
         let at = ended_stands base h stands in
@@ -141,7 +142,7 @@ module _ {L B : Type 0} (of_log : L → State) (of_backing : B → State) where
         subst (λ (g : Geometry). IsChain g x []) ended_geometry
         (empty_chain last.geometry (line last base (h ++ voids at.0)) last.numbers x (all.tried ∙ sym all.recorded) (at.1.safe.on_log.shown x (inl told)))
 
-    ended_recorded : last.down ≡ None → (base : Image) (h : List HistoryEntry) → Standing old (of_log old.log) (of_backing old.backing) base h
+    ended_recorded : last.down ≡ None → (base : Image) (h : List HistoryEntry) → Standing of_log of_backing old base h
         → (x : Image) → Told (of_log last.log) x → (record_of x ≡ last_id old) × SuperText x old.geometry 1
     ended_recorded up base h stands x told =
         let at = ended_stands base h stands in
@@ -149,7 +150,7 @@ module _ {L B : Type 0} (of_log : L → State) (of_backing : B → State) where
         let logs = at.1.safe.on_log.shown x (inl told) in
         (omega (arith, logs.from, logs.to, all.recorded, all.back, ended_sealed), subst (λ (g : Geometry). SuperText x g 1) ended_geometry logs.super)
 
-    ended_crash : (base : Image) (h : List HistoryEntry) → Standing old (of_log old.log) (of_backing old.backing) base h
+    ended_crash : (base : Image) (h : List HistoryEntry) → Standing of_log of_backing old base h
         → CrashNow old.geometry (line old base h) old.numbers.stable (last_id old) (of_log last.log) (of_backing last.backing)
     ended_crash base h stands =
         let at = ended_stands base h stands in
@@ -160,21 +161,21 @@ module _ {L B : Type 0} (of_log : L → State) (of_backing : B → State) where
         (moves.first ∙ ended.full.first)
         (crash_without_voids last.geometry (places last.geometry) last.numbers.first base h at.0 old.numbers.stable (last_id old) (of_log last.log) (of_backing last.backing) crash))
 
-    ended_changed : (base : Image) (h : List HistoryEntry) → Standing old (of_log old.log) (of_backing old.backing) base h
+    ended_changed : (base : Image) (h : List HistoryEntry) → Standing of_log of_backing old base h
         → ContentPasses (PutsPartly h) (of_backing old.backing) (of_backing last.backing)
     ended_changed base h stands =
         let full = ended.full.stands base h stands in
         subst (λ (b : B). ContentPasses (PutsPartly h) (of_backing b) (of_backing last.backing)) ended.full.kept.backing
         (content_weaker (λ x y told put. puts_without_voids h full.0 x y put) (ended.drained.moves.changed base (h ++ voids full.0) full.1))
 
-    ended_left : (base : Image) (h : List HistoryEntry) → Standing old (of_log old.log) (of_backing old.backing) base h
+    ended_left : (base : Image) (h : List HistoryEntry) → Standing of_log of_backing old base h
         → Passes (PutsPartly h) (of_backing old.backing) (of_backing last.backing)
     ended_left base h stands =
         let full = ended.full.stands base h stands in
         subst (λ (b : B). Passes (PutsPartly h) (of_backing b) (of_backing last.backing)) ended.full.kept.backing
         (weaker (λ x y left put. puts_without_voids h full.0 x y put) (ended.drained.moves.left base (h ++ voids full.0) full.1))
 
-    ended_durable : last.down ≡ None → IsSynced old (of_log old.log) (of_backing old.backing) → NothingPending (of_log last.log) × NothingPending (of_backing last.backing)
+    ended_durable : last.down ≡ None → IsSynced of_log of_backing old → NothingPending (of_log last.log) × NothingPending (of_backing last.backing)
     ended_durable up synced =
         let is = ended.drained.moves.synced (ended.full.synced synced) in
         let all = ended_all up in
@@ -190,31 +191,31 @@ module _ {L B : Type 0} (of_log : L → State) (of_backing : B → State) where
       | inr stayed ↦ absurd (stayed.0 (last_of old last stayed.1 up))
     ]
 
-    pub finished_content : last.down ≡ None → (base : Image) (h : List HistoryEntry) → Standing old (of_log old.log) (of_backing old.backing) base h
+    pub finished_content : last.down ≡ None → (base : Image) (h : List HistoryEntry) → Standing of_log of_backing old base h
         → (y : Image) → Told (of_backing last.backing) y → y ≡ after base h
     finished_content up = ended_content old last (was_up up) up
 
-    pub finished_empty : last.down ≡ None → (base : Image) (h : List HistoryEntry) → Standing old (of_log old.log) (of_backing old.backing) base h
+    pub finished_empty : last.down ≡ None → (base : Image) (h : List HistoryEntry) → Standing of_log of_backing old base h
         → (x : Image) → Told (of_log last.log) x → IsChain old.geometry x []
     finished_empty up = ended_empty old last (was_up up) up
 
-    pub finished_recorded : last.down ≡ None → (base : Image) (h : List HistoryEntry) → Standing old (of_log old.log) (of_backing old.backing) base h
+    pub finished_recorded : last.down ≡ None → (base : Image) (h : List HistoryEntry) → Standing of_log of_backing old base h
         → (x : Image) → Told (of_log last.log) x → (record_of x ≡ last_id old) × SuperText x old.geometry 1
     finished_recorded up = ended_recorded old last (was_up up) up
 
-    pub finished_durable : last.down ≡ None → IsSynced old (of_log old.log) (of_backing old.backing) → NothingPending (of_log last.log) × NothingPending (of_backing last.backing)
+    pub finished_durable : last.down ≡ None → IsSynced of_log of_backing old → NothingPending (of_log last.log) × NothingPending (of_backing last.backing)
     finished_durable up = ended_durable old last (was_up up) up
 
-    pub finished_crash : IsEngine old (of_log old.log) (of_backing old.backing) → (base : Image) (h : List HistoryEntry) → Standing old (of_log old.log) (of_backing old.backing) base h
+    pub finished_crash : IsEngine of_log of_backing old → (base : Image) (h : List HistoryEntry) → Standing of_log of_backing old base h
         → CrashNow old.geometry (line old base h) old.numbers.stable (last_id old) (of_log last.log) (of_backing last.backing)
     finished_crash is base h stands = elim finished [
       | inl ended ↦ ended_crash old last ended.1 base h stands
       | inr stayed ↦
           subst (λ (e : EngineContent L B). CrashNow old.geometry (line old base h) old.numbers.stable (last_id old) (of_log e.log) (of_backing e.backing)) (sym stayed.1)
-          (exit_crash old.numbers.stable (last_id old) stands.safe (omega arith) (omega (arith, stands.safe.ordered.tried, sealed_last old (of_log old.log) (of_backing old.backing) is)))
+          (exit_crash old.numbers.stable (last_id old) stands.safe (omega arith) (omega (arith, stands.safe.ordered.tried, sealed_last old is)))
     ]
 
-    pub finished_changed : (base : Image) (h : List HistoryEntry) → Standing old (of_log old.log) (of_backing old.backing) base h
+    pub finished_changed : (base : Image) (h : List HistoryEntry) → Standing of_log of_backing old base h
         → ContentPasses (PutsPartly h) (of_backing old.backing) (of_backing last.backing)
     finished_changed base h stands = elim finished [
       | inl ended ↦ ended_changed old last ended.1 base h stands
@@ -222,7 +223,7 @@ module _ {L B : Type 0} (of_log : L → State) (of_backing : B → State) where
           subst (λ (e : EngineContent L B). ContentPasses (PutsPartly h) (of_backing old.backing) (of_backing e.backing)) (sym stayed.1) (content_same (λ x told. puts_same h x) refl)
     ]
 
-    pub finished_left : (base : Image) (h : List HistoryEntry) → Standing old (of_log old.log) (of_backing old.backing) base h
+    pub finished_left : (base : Image) (h : List HistoryEntry) → Standing of_log of_backing old base h
         → Passes (PutsPartly h) (of_backing old.backing) (of_backing last.backing)
     finished_left base h stands = elim finished [
       | inl ended ↦ ended_left old last ended.1 base h stands

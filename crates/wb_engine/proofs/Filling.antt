@@ -80,11 +80,10 @@ module _ {L B : Type 0} (of_log : L → State) (of_backing : B → State) where
     pub first : now.numbers.first ≡ old.numbers.first
     pub stable : now.numbers.stable ≡ old.numbers.stable
     pub logged : now.numbers.logged ≡ old.numbers.logged
-    pub stands : (base : Image) (h : List HistoryEntry) → Standing old (of_log old.log) (of_backing old.backing) base h
-        → Standing now (of_log now.log) (of_backing now.backing) base (h ++ replicate count (Void 0))
-    pub synced : IsSynced old (of_log old.log) (of_backing old.backing) → IsSynced now (of_log now.log) (of_backing now.backing)
+    pub stands : (base : Image) (h : List HistoryEntry) → Standing of_log of_backing old base h → Standing of_log of_backing now base (h ++ replicate count (Void 0))
+    pub synced : IsSynced of_log of_backing old → IsSynced of_log of_backing now
 
-  pub filling_none : (e : EngineContent L B) → IsEngine e (of_log e.log) (of_backing e.backing) → IsFilling e e 0
+  pub filling_none : (e : EngineContent L B) → IsEngine of_log of_backing e → IsFilling e e 0
   filling_none e is = record {
     kept = record { geometry = refl; down = refl; log = refl; backing = refl };
     absorbed = omega arith;
@@ -92,14 +91,14 @@ module _ {L B : Type 0} (of_log : L → State) (of_backing : B → State) where
     first = refl;
     stable = refl;
     logged = refl;
-    stands = λ base h stands. subst (λ (l : List HistoryEntry). Standing e (of_log e.log) (of_backing e.backing) base l) (sym (append-nil h)) stands;
+    stands = λ base h stands. subst (λ (l : List HistoryEntry). Standing of_log of_backing e base l) (sym (append-nil h)) stands;
     synced = λ is. is;
   }
 
   -- another may come
-  pub filling_comes : (old now : EngineContent L B) (log backing : State) (begun index : ℕ) → IsEngine old log backing → IsFilling old now (index - begun) → begun ≡ old.absorbed % places old.geometry
+  pub filling_comes : (old now : EngineContent L B) (begun index : ℕ) → IsEngine of_log of_backing old → IsFilling old now (index - begun) → begun ≡ old.absorbed % places old.geometry
       → 1 ≤ begun → begun ≤ index → index < places old.geometry → MayCome now (entry.Void 0)
-  filling_comes old now log backing begun index is so_far is_begun some low high =
+  filling_comes old now begun index is so_far is_begun some low high =
       let n : ℕ = places old.geometry in
       let a : ℕ = old.absorbed in
       let k : ℕ = index - begun in
@@ -128,8 +127,8 @@ module _ {L B : Type 0} (of_log : L → State) (of_backing : B → State) where
   -- and it has come
   pub filling_more : (old mid new : EngineContent L B) (count : ℕ) → IsFilling old mid count
       → IsOffDevices mid new → new.absorbed ≡ mid.absorbed + 1 → new.numbers ≡ numbers_at mid.geometry mid.numbers (mid.absorbed + 1)
-      → ((base : Image) (h : List HistoryEntry) → Standing mid (of_log mid.log) (of_backing mid.backing) base h → Standing new (of_log new.log) (of_backing new.backing) base (h ++ Void 0 ∷ []))
-      → (IsSynced mid (of_log mid.log) (of_backing mid.backing) → IsSynced new (of_log new.log) (of_backing new.backing)) → IsFilling old new (count + 1)
+      → ((base : Image) (h : List HistoryEntry) → Standing of_log of_backing mid base h → Standing of_log of_backing new base (h ++ Void 0 ∷ []))
+      → (IsSynced of_log of_backing mid → IsSynced of_log of_backing new) → IsFilling old new (count + 1)
   filling_more old mid new count so_far kept absorbed numbers stands synced = record {
     kept = record {
       geometry = kept.geometry ∙ so_far.kept.geometry;
@@ -147,7 +146,7 @@ module _ {L B : Type 0} (of_log : L → State) (of_backing : B → State) where
     stable = ap (λ (m : Numbers). m.stable) numbers ∙ so_far.stable;
     logged = ap (λ (m : Numbers). m.logged) numbers ∙ so_far.logged;
     stands = λ base h before.
-        subst (λ (l : List HistoryEntry). Standing new (of_log new.log) (of_backing new.backing) base l)
+        subst (λ (l : List HistoryEntry). Standing of_log of_backing new base l)
         (append_assoc h (replicate count (Void 0)) (Void 0 ∷ []) ∙ ap (λ (l : List HistoryEntry). h ++ l) (replicate_more count))
         (stands base (h ++ replicate count (Void 0)) (so_far.stands base h before));
     synced = λ is. synced (so_far.synced is);

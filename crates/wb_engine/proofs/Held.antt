@@ -7,7 +7,7 @@ use Rattle.wb_geometry.specs.Line.{span}
 use Rattle.wb_geometry.proofs.Histories.{last_write-append}
 use Rattle.wb_header.specs.Segments.{Segment}
 use Rattle.wb_header.specs.Standing.{StandsFor, entries_of}
-use Rattle.wb_engine.specs.Memory.{segment_at, no_segment, kept_entries}
+use Rattle.wb_memory.specs.Memory.{segment_at, no_segment, kept_entries}
 
 -- each segment stands for that of its id
 abbrev pub AreHeld : (ℕ → List HistoryEntry) → List Segment → Type 0

@@ -7,7 +7,7 @@ use Rattle.wb_header.specs.Standing.{numbers_of}
 use Rattle.wb_header.proofs.Standings.{stands_void}
 use Rattle.wb_ram.specs.Merging.{IsMerged}
 use Rattle.wb_back.proofs.Added.{AreInside-added}
-use Rattle.wb_engine.specs.Memory.{MemoryContent}
+use Rattle.wb_memory.specs.Memory.{MemoryContent}
 use Rattle.wb_engine.specs.Standing.{Keeps}
 
 -- a place that changes nothing leaves the memory as it is

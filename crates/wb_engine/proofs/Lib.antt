@@ -9,12 +9,9 @@ pub mod Held
 pub mod Keepings
 pub mod LineReads
 pub mod LineSpots
-pub mod Listed
-pub mod ListedReads
-pub mod ListedSpots
 pub mod Logging
-pub mod Memories
 pub mod Openings
+pub mod Places
 pub mod Plannings
 pub mod Preparings
 pub mod ReadBack
@@ -22,7 +19,6 @@ pub mod ReadLoops
 pub mod Recordings
 pub mod Records
 pub mod SectorReads
-pub mod SegmentSpots
 pub mod Standings
 pub mod Steps
 pub mod Strays

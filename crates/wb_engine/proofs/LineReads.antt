@@ -18,7 +18,7 @@ use Rattle.wb_log.proofs.Texts.{sector_read}
 use Rattle.wb_table.specs.Lookup.{nowhere}
 use Rattle.wb_table.specs.Tables.{spot_in}
 use Rattle.wb_crash.specs.Images.{HoldsSegment, IsBackingImage}
-use Rattle.wb_engine.specs.Memory.{IsMemory, live, kept_entries, last_logged}
+use Rattle.wb_memory.specs.Memory.{IsMemory, live, kept_entries, last_logged}
 use Rattle.wb_engine.specs.Content.{EngineContent, IsEngine}
 use Rattle.wb_engine.specs.Standing.{Standing, Told, line}
 use Rattle.wb_engine.specs.Spots.{IsInSegment}
@@ -30,11 +30,11 @@ content_of : (content : Option Image) → IsSome content → (x : Image) × (con
 content_of (Some x) is = (x, refl)
 content_of None is = absurd (let z = is in cc)
 
-module _ {L B : Type 0} where
+module _ {L B : Type 0} {of_log : L → State} {of_backing : B → State} where
   -- all of the history is in the segments up to the open one
-  line_whole : (e : EngineContent L B) (log backing : State) (base : Image) (h : List HistoryEntry) → IsEngine e log backing → Standing e log backing base h
+  line_whole : (e : EngineContent L B) (base : Image) (h : List HistoryEntry) → IsEngine of_log of_backing e → Standing of_log of_backing e base h
       → image (line e base h) (e.numbers.sealed + 1) ≡ after base h
-  line_whole e log backing base h is stands =
+  line_whole e base h is stands =
       let n : ℕ = places e.geometry in
       let some : 1 ≤ n = (places_few e.geometry).0 in
       let end : e.numbers.sealed + 1 - e.numbers.first ≡ suc (e.absorbed / n) = omega (arith, is.filled.sealed) in
@@ -43,21 +43,21 @@ module _ {L B : Type 0} where
       image-all n e.numbers.first base h (e.numbers.sealed + 1) room
 
   -- a sector that is served is inside the image of the backing device
-  inside_image : (e : EngineContent L B) (log backing : State) (k : ℕ) (shown : Image) → IsEngine e log backing → IsDevice backing → k < e.geometry.backing_sectors → Told backing shown → k < length shown
-  inside_image e log backing k shown is device inside told = omega (arith, inside, is.backing_room, (device.content shown told).size)
+  inside_image : (e : EngineContent L B) (k : ℕ) (shown : Image) → IsEngine of_log of_backing e → IsDevice (of_backing e.backing) → k < e.geometry.backing_sectors → Told (of_backing e.backing) shown → k < length shown
+  inside_image e k shown is device inside told = omega (arith, inside, is.backing_room, (device.content shown told).size)
 
   -- It is as after the recorded segments, with the last of the writes behind them over it.
-  sector_last : (e : EngineContent L B) (log backing : State) (base shown : Image) (h : List HistoryEntry) (k : ℕ) (last : Option (List ℕ)) → IsEngine e log backing → Standing e log backing base h
-      → Told backing shown → k < length shown → last_write k (span (line e base h).list e.numbers.recorded (e.numbers.sealed + 1 - e.numbers.recorded)) ≡ last
+  sector_last : (e : EngineContent L B) (base shown : Image) (h : List HistoryEntry) (k : ℕ) (last : Option (List ℕ)) → IsEngine of_log of_backing e → Standing of_log of_backing e base h
+      → Told (of_backing e.backing) shown → k < length shown → last_write k (span (line e base h).list e.numbers.recorded (e.numbers.sealed + 1 - e.numbers.recorded)) ≡ last
       → standing (sector (image (line e base h) e.numbers.recorded) k) last ≡ sector (after base h) k
-  sector_last e log backing base shown h k last is stands told below writes =
+  sector_last e base shown h k last is stands told below writes =
       let over : Line = line e base h in
       let from : ℕ = e.numbers.recorded in
       let end : ℕ = e.numbers.sealed + 1 in
       let upto : from ≤ end = omega (arith, is.ordered.recorded, is.ordered.back, is.ordered.stable, is.ordered.logged, is.ordered.tried) in
       let size : length shown ≡ length base = (stands.safe.on_backing.shown shown (inl told)).size in
       sym (
-      sym (ap (λ (x : Image). sector x k) (line_whole e log backing base h is stands))
+      sym (ap (λ (x : Image). sector x k) (line_whole e base h is stands))
       ∙ ap (λ (x : Image). sector x k) (image-between over from end is.ordered.start upto)
       ∙ sector-after (image over from) (span over.list from (end - from)) k (omega (arith, below, size, length-after base (span over.list over.first (from - over.first))))
       ∙ ap (standing (sector (image over from) k)) writes
@@ -66,56 +66,56 @@ module _ {L B : Type 0} where
   -- ---- as the code reads
 
   -- a segment in memory has it
-  pub read_here : (e : EngineContent L B) (log backing : State) (k : ℕ) (into bytes : List ℕ) → IsEngine e log backing → IsDevice backing → k < e.geometry.backing_sectors
+  pub read_here : (e : EngineContent L B) (k : ℕ) (into bytes : List ℕ) → IsEngine of_log of_backing e → IsDevice (of_backing e.backing) → k < e.geometry.backing_sectors
       → last_write (8 * (k / 8) + k % 8) (kept_entries (live e.memory)) ≡ Some bytes → into ≡ bytes
-      → (base shown : Image) (h : List HistoryEntry) → Told backing shown → Standing e log backing base h → into ≡ sector (after base h) k
-  read_here e log backing k into bytes is device inside kept same base shown h told stands =
+      → (base shown : Image) (h : List HistoryEntry) → Told (of_backing e.backing) shown → Standing of_log of_backing e base h → into ≡ sector (after base h) k
+  read_here e k into bytes is device inside kept same base shown h told stands =
       let at : 8 * (k / 8) + k % 8 ≡ k = omega arith in
       same
-      ∙ sector_last e log backing base shown h k (Some bytes) is stands told (inside_image e log backing k shown is device inside told)
-      (memory_has e log backing base h k bytes is stands (subst (λ (n : ℕ). last_write n (kept_entries (live e.memory)) ≡ Some bytes) at kept))
+      ∙ sector_last e base shown h k (Some bytes) is stands told (inside_image e k shown is device inside told)
+      (memory_has e base h k bytes is stands (subst (λ (n : ℕ). last_write n (kept_entries (live e.memory)) ≡ Some bytes) at kept))
 
   -- the segments up to the last in the log are those that are logged
-  pub logged_upto : (e : EngineContent L B) (log backing : State) (id : ℕ) → IsEngine e log backing → id ≤ last_logged e.memory → id ≤ e.numbers.logged
-  logged_upto e log backing id is upto = omega (arith, upto, last_logged_is e log backing is)
+  pub logged_upto : (e : EngineContent L B) (id : ℕ) → IsEngine of_log of_backing e → id ≤ last_logged e.memory → id ≤ e.numbers.logged
+  logged_upto e id is upto = omega (arith, upto, last_logged_is e is)
 
   -- a segment in the log has it
-  pub read_logged : (e : EngineContent L B) (log backing : State) (k : ℕ) (spot : Spot) (into : List ℕ) → IsEngine e log backing → IsMemory e.memory → IsDevice backing → k < e.geometry.backing_sectors
-      → spot ≡ spot_in e.memory.lookup (k / 8) (k % 8) → 1 ≤ spot.id → spot.id ≤ last_logged e.memory → length into ≡ 512 → HoldsContent (block_start e.geometry spot + k % 8) into log
-      → (base shown : Image) (h : List HistoryEntry) → Told backing shown → Standing e log backing base h → into ≡ sector (after base h) k
-  read_logged e log backing k spot into is sound device inside named some upto size holds base shown h told stands =
+  pub read_logged : (e : EngineContent L B) (k : ℕ) (spot : Spot) (into : List ℕ) → IsEngine of_log of_backing e → IsMemory e.memory → IsDevice (of_backing e.backing) → k < e.geometry.backing_sectors
+      → spot ≡ spot_in e.memory.lookup (k / 8) (k % 8) → 1 ≤ spot.id → spot.id ≤ last_logged e.memory → length into ≡ 512 → HoldsContent (block_start e.geometry spot + k % 8) into (of_log e.log)
+      → (base shown : Image) (h : List HistoryEntry) → Told (of_backing e.backing) shown → Standing of_log of_backing e base h → into ≡ sector (after base h) k
+  read_logged e k spot into is sound device inside named some upto size holds base shown h told stands =
       let over : Line = line e base h in
       let from : ℕ = e.numbers.recorded in
       let end : ℕ = e.numbers.sealed + 1 in
       let at : 8 * (k / 8) + k % 8 ≡ k = omega arith in
       let eight : k % 8 < 8 = omega arith in
-      let names = spot_names e log backing base h (k / 8) (k % 8) is sound stands eight (subst (λ (p : Spot). 1 ≤ p.id) named some) in
+      let names = spot_names e base h (k / 8) (k % 8) is sound stands eight (subst (λ (p : Spot). 1 ≤ p.id) named some) in
       let there : IsInSegment over from end (k / 8) (8 * (k / 8) + k % 8) spot = subst (IsInSegment over from end (k / 8) (8 * (k / 8) + k % 8)) (sym named) names in
-      let content = content_of log.content stands.told in
-      let held : HoldsSegment e.geometry over content.0 spot.id = stands.safe.on_log.logged content.0 content.1 spot.id there.after (logged_upto e log backing spot.id is upto) in
+      let content = content_of (of_log e.log).content stands.told in
+      let held : HoldsSegment e.geometry over content.0 spot.id = stands.safe.on_log.logged content.0 content.1 spot.id there.after (logged_upto e spot.id is upto) in
       let blocks : List TextBlock = held.is.blocks in
       let bytes : List ℕ = sector (sectors_of (block_at blocks spot.index).payload) (k % 8) in
       let writes : last_write k (span over.list from (end - from)) ≡ Some bytes =
       subst (λ (n : ℕ). last_write n (span over.list from (end - from)) ≡ Some bytes) at
       (spot_written over from end (k / 8) (8 * (k / 8) + k % 8) spot there ∙ spot_sector over from end (k / 8) (k % 8) spot blocks eight there held.is.for) in
       sector_read e.geometry spot (k % 8) into content.0 blocks size holds content.1 (record { text = held.text; is = held.is.is; stands = held.stands }) (there.index blocks held.is.for).0 eight
-      ∙ sector_last e log backing base shown h k (Some bytes) is stands told (inside_image e log backing k shown is device inside told) writes
+      ∙ sector_last e base shown h k (Some bytes) is stands told (inside_image e k shown is device inside told) writes
 
   -- the backing device has it
-  pub read_backing : (e : EngineContent L B) (log backing : State) (k : ℕ) (into : List ℕ) → IsEngine e log backing → IsMemory e.memory → IsDevice backing → k < e.geometry.backing_sectors
-      → spot_in e.memory.lookup (k / 8) (k % 8) ≡ nowhere → length into ≡ 512 → HoldsContent k into backing
-      → (base shown : Image) (h : List HistoryEntry) → Told backing shown → Standing e log backing base h → into ≡ sector (after base h) k
-  read_backing e log backing k into is sound device inside named size holds base shown h told stands =
+  pub read_backing : (e : EngineContent L B) (k : ℕ) (into : List ℕ) → IsEngine of_log of_backing e → IsMemory e.memory → IsDevice (of_backing e.backing) → k < e.geometry.backing_sectors
+      → spot_in e.memory.lookup (k / 8) (k % 8) ≡ nowhere → length into ≡ 512 → HoldsContent k into (of_backing e.backing)
+      → (base shown : Image) (h : List HistoryEntry) → Told (of_backing e.backing) shown → Standing of_log of_backing e base h → into ≡ sector (after base h) k
+  read_backing e k into is sound device inside named size holds base shown h told stands =
       let over : Line = line e base h in
       let from : ℕ = e.numbers.recorded in
       let end : ℕ = e.numbers.sealed + 1 in
       let at : 8 * (k / 8) + k % 8 ≡ k = omega arith in
       let eight : k % 8 < 8 = omega arith in
       let writes : last_write k (span over.list from (end - from)) ≡ None =
-      subst (λ (n : ℕ). last_write n (span over.list from (end - from)) ≡ None) at (spot_nowhere e log backing base h (k / 8) (k % 8) is sound stands eight named) in
+      subst (λ (n : ℕ). last_write n (span over.list from (end - from)) ≡ None) at (spot_nowhere e base h (k / 8) (k % 8) is sound stands eight named) in
       let backs : IsBackingImage over e.numbers shown = stands.safe.on_backing.shown shown (inl told) in
       let stable : from ≤ e.numbers.stable = omega (arith, is.ordered.recorded, is.ordered.back) in
       let upto : e.numbers.stable ≤ end = omega (arith, is.ordered.stable, is.ordered.logged, is.ordered.tried) in
       sym (device_read k into device (omega (arith, inside, is.backing_room)) size holds shown told)
       ∙ (Agrees-wider over from e.numbers.stable end shown stable upto (backs.agrees from (omega arith) is.ordered.recorded)).each k writes
-      ∙ sector_last e log backing base shown h k None is stands told (inside_image e log backing k shown is device inside told) writes
+      ∙ sector_last e base shown h k None is stands told (inside_image e k shown is device inside told) writes

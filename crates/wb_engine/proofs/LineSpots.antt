@@ -3,8 +3,8 @@ use Rattle.std.proofs.Common.{ℕ, suc, ◌≡◌, ◌≢◌, ◌+◌, ◌-◌, 
 use Rattle.std.specs.Int.{bit_at}
 use Rattle.std.proofs.lemmas.Bool.{cases_eq, cases_lt, cond-true, cond-false, eq-eqb, ne_eqb}
 use Rattle.std.proofs.lemmas.List.{length-append, length_push, get_or_append_left, get_or-append_right}
-use Rattle.wb_geometry.specs.Image.{Image, sector, sectors_of}
 use Rattle.wb_geometry.specs.Device.{State}
+use Rattle.wb_geometry.specs.Image.{Image, sector, sectors_of}
 use Rattle.wb_geometry.specs.History.{HistoryEntry, last_write, later, IsUnwritten}
 use Rattle.wb_geometry.specs.Line.{Line, span}
 use Rattle.wb_geometry.specs.declared.spot.Spot.{Spot}
@@ -18,12 +18,12 @@ use Rattle.wb_header.proofs.Standings.{stands_alike, stands_block, stands_no_blo
 use Rattle.wb_log.specs.Kept.{Kept, metas_at}
 use Rattle.wb_table.specs.Lookup.{nowhere}
 use Rattle.wb_table.specs.Tables.{spot_in}
-use Rattle.wb_engine.specs.Memory.{IsMemory, live, listed, bare, logged_from, segment_at, no_segment, kept_entries, spot_from, newest, last_logged}
+use Rattle.wb_memory.specs.Memory.{IsMemory, live, listed, bare, logged_from, segment_at, no_segment, kept_entries, spot_from, newest, last_logged}
 use Rattle.wb_engine.specs.Content.{EngineContent, IsEngine}
 use Rattle.wb_engine.specs.Standing.{Standing, IsListed, line}
 use Rattle.wb_engine.specs.Spots.{IsInSegment, IsNewestSpot}
-use Rattle.wb_engine.proofs.SegmentSpots.{HasSector, spot_from-cases, last_write-has, last_write-has_not}
-use Rattle.wb_engine.proofs.Listed.{spot_from-bare, length-logged_from, ids-logged_from, at-logged_from}
+use Rattle.wb_memory.proofs.SegmentSpots.{HasSector, spot_from-cases, last_write-has, last_write-has_not}
+use Rattle.wb_memory.proofs.Listed.{spot_from-bare, length-logged_from, ids-logged_from, at-logged_from}
 use Rattle.wb_engine.proofs.Held.{AreHeld, AreInTurn, turn_rest, turn_last, last_write-held}
 
 -- the first segment has the sector, and none behind it
@@ -192,10 +192,10 @@ spot_sector line from to block i spot blocks eight is stands =
 
 -- ---- the spots of an engine
 
-module _ {L B : Type 0} where
+module _ {L B : Type 0} {of_log : L → State} {of_backing : B → State} where
   -- the ids of all segments behind the record follow one another
-  pub turn_listed : (e : EngineContent L B) (log backing : State) → IsEngine e log backing → AreInTurn e.numbers.recorded (listed e.memory)
-  turn_listed e log backing is j below = elim (cases_lt j (length in_log)) [
+  pub turn_listed : (e : EngineContent L B) → IsEngine of_log of_backing e → AreInTurn e.numbers.recorded (listed e.memory)
+  turn_listed e is j below = elim (cases_lt j (length in_log)) [
     | inl inside ↦
         ap (λ (s : Segment). s.id) (get_or_append_left in_log (live e.memory) no_segment j inside)
         ∙ ids-logged_from e.memory.logged.first e.memory.logged.kept j inside
@@ -213,14 +213,14 @@ module _ {L B : Type 0} where
       count = length-logged_from e.memory.logged.first e.memory.logged.kept
 
   -- and they end with the open one
-  pub count_live : (e : EngineContent L B) (log backing : State) → IsEngine e log backing → e.numbers.sealed + 1 ≡ e.numbers.logged + length (live e.memory)
-  count_live e log backing is = omega (arith, length_push e.memory.sealed e.memory.current, is.memory.count, is.ordered.logged, is.ordered.tried)
+  pub count_live : (e : EngineContent L B) → IsEngine of_log of_backing e → e.numbers.sealed + 1 ≡ e.numbers.logged + length (live e.memory)
+  count_live e is = omega (arith, length_push e.memory.sealed e.memory.current, is.memory.count, is.ordered.logged, is.ordered.tried)
 
-  pub count_listed : (e : EngineContent L B) (log backing : State) → IsEngine e log backing → e.numbers.sealed + 1 ≡ e.numbers.recorded + length (listed e.memory)
-  count_listed e log backing is =
+  pub count_listed : (e : EngineContent L B) → IsEngine of_log of_backing e → e.numbers.sealed + 1 ≡ e.numbers.recorded + length (listed e.memory)
+  count_listed e is =
       omega (
         arith,
-        count_live e log backing is,
+        count_live e is,
         length-append (logged_from e.memory.logged.first e.memory.logged.kept) (live e.memory),
         length-logged_from e.memory.logged.first e.memory.logged.kept,
         is.memory.logged_count,
@@ -230,14 +230,14 @@ module _ {L B : Type 0} where
       )
 
   -- the last segment in the log is the last that was logged
-  pub last_logged_is : (e : EngineContent L B) (log backing : State) → IsEngine e log backing → last_logged e.memory ≡ e.numbers.logged
-  last_logged_is e log backing is =
+  pub last_logged_is : (e : EngineContent L B) → IsEngine of_log of_backing e → last_logged e.memory ≡ e.numbers.logged
+  last_logged_is e is =
       let last = turn_last e.numbers.logged e.memory.sealed e.memory.current is.memory.ids in
       omega (arith, last)
 
-  pub known_listed : (e : EngineContent L B) (log backing : State) (base : Image) (history : List HistoryEntry) → IsEngine e log backing → Standing e log backing base history
+  pub known_listed : (e : EngineContent L B) (base : Image) (history : List HistoryEntry) → IsEngine of_log of_backing e → Standing of_log of_backing e base history
       → AreKnown (line e base history).list (listed e.memory)
-  known_listed e log backing base history is stands =
+  known_listed e base history is stands =
       known_append (line e base history).list (logged_from e.memory.logged.first e.memory.logged.kept) (live e.memory)
       (known_logged (line e base history).list e.numbers.recorded e.memory.logged is.memory.logged_first
       (λ s after until. stands.logged s after (omega (arith, until, is.memory.logged_count, is.ordered.recorded, is.ordered.back, is.ordered.stable))))
@@ -245,45 +245,45 @@ module _ {L B : Type 0} where
 
   -- The spot that the table has of a sector of a block is its newest, among all segments behind the record: where it names
   -- one, that one writes the sector, and none behind it; where it is nowhere, none does.
-  pub spot_in_line : (e : EngineContent L B) (log backing : State) (base : Image) (history : List HistoryEntry) (block i : ℕ) → IsEngine e log backing → IsMemory e.memory
-      → Standing e log backing base history → i < 8
+  pub spot_in_line : (e : EngineContent L B) (base : Image) (history : List HistoryEntry) (block i : ℕ) → IsEngine of_log of_backing e → IsMemory e.memory
+      → Standing of_log of_backing e base history → i < 8
       → IsNewestSpot (line e base history) e.numbers.recorded (e.numbers.sealed + 1) block i (spot_in e.memory.lookup block i)
-  spot_in_line e log backing base history block i is sound stands eight =
+  spot_in_line e base history block i is sound stands eight =
       subst (IsNewestSpot (line e base history) e.numbers.recorded (e.numbers.sealed + 1) block i) (sym (sound.spots block i eight))
-      (spot-newest (line e base history) (listed e.memory) e.numbers.recorded (e.numbers.sealed + 1) block i eight (count_listed e log backing is)
-      (turn_listed e log backing is) (known_listed e log backing base history is stands))
+      (spot-newest (line e base history) (listed e.memory) e.numbers.recorded (e.numbers.sealed + 1) block i eight (count_listed e is)
+      (turn_listed e is) (known_listed e base history is stands))
 
   -- where it is nowhere, no segment behind the record writes the sector
-  pub spot_nowhere : (e : EngineContent L B) (log backing : State) (base : Image) (history : List HistoryEntry) (block i : ℕ) → IsEngine e log backing → IsMemory e.memory
-      → Standing e log backing base history → i < 8 → spot_in e.memory.lookup block i ≡ nowhere
+  pub spot_nowhere : (e : EngineContent L B) (base : Image) (history : List HistoryEntry) (block i : ℕ) → IsEngine of_log of_backing e → IsMemory e.memory
+      → Standing of_log of_backing e base history → i < 8 → spot_in e.memory.lookup block i ≡ nowhere
       → IsUnwritten (8 * block + i) (span (line e base history).list e.numbers.recorded (e.numbers.sealed + 1 - e.numbers.recorded))
-  spot_nowhere e log backing base history block i is sound stands eight none = elim (spot_in_line e log backing base history block i is sound stands eight) [
+  spot_nowhere e base history block i is sound stands eight none = elim (spot_in_line e base history block i is sound stands eight) [
     | inl there ↦ there.unwritten
     | inr there ↦ absurd (omega (arith, there.after, ap (λ (p : Spot). p.id) none))
   ]
 
   -- where it names a segment, that one writes it, and none behind it
-  pub spot_names : (e : EngineContent L B) (log backing : State) (base : Image) (history : List HistoryEntry) (block i : ℕ) → IsEngine e log backing → IsMemory e.memory
-      → Standing e log backing base history → i < 8 → 1 ≤ (spot_in e.memory.lookup block i).id
+  pub spot_names : (e : EngineContent L B) (base : Image) (history : List HistoryEntry) (block i : ℕ) → IsEngine of_log of_backing e → IsMemory e.memory
+      → Standing of_log of_backing e base history → i < 8 → 1 ≤ (spot_in e.memory.lookup block i).id
       → IsInSegment (line e base history) e.numbers.recorded (e.numbers.sealed + 1) block (8 * block + i) (spot_in e.memory.lookup block i)
-  spot_names e log backing base history block i is sound stands eight some = elim (spot_in_line e log backing base history block i is sound stands eight) [
+  spot_names e base history block i is sound stands eight some = elim (spot_in_line e base history block i is sound stands eight) [
     | inl there ↦ absurd (omega (arith, there.id, some))
     | inr there ↦ there
   ]
 
   -- what the segments in memory keep of a sector
-  pub memory_last : (e : EngineContent L B) (log backing : State) (base : Image) (history : List HistoryEntry) (k : ℕ) → IsEngine e log backing → Standing e log backing base history
+  pub memory_last : (e : EngineContent L B) (base : Image) (history : List HistoryEntry) (k : ℕ) → IsEngine of_log of_backing e → Standing of_log of_backing e base history
       → last_write k (kept_entries (live e.memory)) ≡ last_write k (span (line e base history).list e.numbers.logged (e.numbers.sealed + 1 - e.numbers.logged))
-  memory_last e log backing base history k is stands =
-      let count : length (live e.memory) ≡ e.numbers.sealed + 1 - e.numbers.logged = omega (arith, count_live e log backing is) in
+  memory_last e base history k is stands =
+      let count : length (live e.memory) ≡ e.numbers.sealed + 1 - e.numbers.logged = omega (arith, count_live e is) in
       last_write-held (line e base history).list k e.numbers.logged (live e.memory) is.memory.ids stands.memory
       ∙ ap (λ (m : ℕ). last_write k (span (line e base history).list e.numbers.logged m)) count
 
   -- where they have it, it is the last write of all segments behind the record
-  pub memory_has : (e : EngineContent L B) (log backing : State) (base : Image) (history : List HistoryEntry) (k : ℕ) (bytes : List ℕ) → IsEngine e log backing → Standing e log backing base history
+  pub memory_has : (e : EngineContent L B) (base : Image) (history : List HistoryEntry) (k : ℕ) (bytes : List ℕ) → IsEngine of_log of_backing e → Standing of_log of_backing e base history
       → last_write k (kept_entries (live e.memory)) ≡ Some bytes
       → last_write k (span (line e base history).list e.numbers.recorded (e.numbers.sealed + 1 - e.numbers.recorded)) ≡ Some bytes
-  memory_has e log backing base history k bytes is stands has =
+  memory_has e base history k bytes is stands has =
       let list : ℕ → List HistoryEntry = (line e base history).list in
       let front : ℕ = e.numbers.logged - e.numbers.recorded in
       let rest : ℕ = e.numbers.sealed + 1 - e.numbers.logged in
@@ -293,4 +293,4 @@ module _ {L B : Type 0} where
       ap (λ (m : ℕ). last_write k (span list e.numbers.recorded m)) (sym count)
       ∙ ap (last_write k) (span-split list e.numbers.recorded front rest ∙ ap (λ (a : ℕ). span list e.numbers.recorded front ++ span list a rest) at)
       ∙ last_write-append k (span list e.numbers.recorded front) (span list e.numbers.logged rest)
-      ∙ ap (later (last_write k (span list e.numbers.recorded front))) (sym (memory_last e log backing base history k is stands) ∙ has)
+      ∙ ap (later (last_write k (span list e.numbers.recorded front))) (sym (memory_last e base history k is stands) ∙ has)

@@ -29,7 +29,7 @@ use Rattle.wb_crash.proofs.Shown.{shown_from}
 use Rattle.wb_crash.proofs.Steps.{ordered_written}
 use Rattle.wb_crash.proofs.Halves.{safe_tried, safe_wrote}
 use Rattle.wb_crash.proofs.Crash.{log_next_word}
-use Rattle.wb_engine.specs.Memory.{MemoryContent, live}
+use Rattle.wb_memory.specs.Memory.{MemoryContent, live}
 use Rattle.wb_engine.specs.Content.{EngineContent, IsEngine, IsInsideBacking, AreMetasInside}
 use Rattle.wb_engine.specs.Standing.{Standing, IsListed, line}
 use Rattle.wb_engine.specs.Stepping.{MayLog, IsStep}
@@ -69,32 +69,32 @@ some_or_none (x ∷ xs) = inr (omega arith)
 metas_inside : (sectors : ℕ) (blocks : List TextBlock) → All (λ block. 8 * block.number + 8 ≤ sectors) blocks → AreMetasInside sectors (metas_of blocks)
 metas_inside sectors blocks inside = All-map (λ (meta : Meta). 8 * meta.block + 8 ≤ sectors) meta_of blocks inside
 
-module _ {L B : Type 0} where
+module _ {L B : Type 0} {of_log : L → State} {of_backing : B → State} where
   -- it is the segment behind the last that is logged
-  pub front_follows : (e : EngineContent L B) (log backing : State) (front : Segment) (rest : List Segment) → IsEngine e log backing → e.memory.sealed ≡ front ∷ rest
+  pub front_follows : (e : EngineContent L B) (front : Segment) (rest : List Segment) → IsEngine of_log of_backing e → e.memory.sealed ≡ front ∷ rest
       → front.id ≡ e.numbers.logged + 1
-  front_follows e log backing front rest is all =
+  front_follows e front rest is all =
       let first : e.numbers.logged + 1 + 0 ≡ e.numbers.logged + 1 = omega arith in
       subst (AreInTurn e.numbers.logged) (live_front e.memory front rest all) is.memory.ids 0 (omega arith) ∙ first
 
   -- its blocks are inside the backing device
-  pub front_in_backing : (e : EngineContent L B) (log backing : State) (front : Segment) (rest : List Segment) → IsEngine e log backing → e.memory.sealed ≡ front ∷ rest
+  pub front_in_backing : (e : EngineContent L B) (front : Segment) (rest : List Segment) → IsEngine of_log of_backing e → e.memory.sealed ≡ front ∷ rest
       → IsInsideBacking e.geometry front
-  front_in_backing e log backing front rest is all =
+  front_in_backing e front rest is all =
       subst (All (IsInsideBacking e.geometry)) (live_front e.memory front rest all) is.memory.inside 0 front (omega arith)
 
   -- where any segment is kept, the next is behind it
-  kept_follows : (e : EngineContent L B) (log backing : State) (id : ℕ) → IsEngine e log backing → id ≡ e.numbers.logged + 1
+  kept_follows : (e : EngineContent L B) (id : ℕ) → IsEngine of_log of_backing e → id ≡ e.numbers.logged + 1
       → (e.memory.logged.kept ≡ []) ⊎ (id ≡ e.memory.logged.first + length e.memory.logged.kept)
-  kept_follows e log backing id is next = elim (some_or_none e.memory.logged.kept) [
+  kept_follows e id is next = elim (some_or_none e.memory.logged.kept) [
     | inl none ↦ inl none
     | inr some ↦
         inr (omega (arith, next, is.memory.logged_count, is.memory.logged_first some, is.ordered.recorded, is.ordered.back, is.ordered.stable))
   ]
 
   -- the segments behind the record are there
-  pub logged_there : (e : EngineContent L B) (log backing : State) (s : ℕ) → IsEngine e log backing → e.numbers.recorded < s → s ≤ e.numbers.logged → IsThere e.memory.logged s
-  logged_there e log backing s is low high =
+  pub logged_there : (e : EngineContent L B) (s : ℕ) → IsEngine of_log of_backing e → e.numbers.recorded < s → s ≤ e.numbers.logged → IsThere e.memory.logged s
+  logged_there e s is low high =
       let count = is.memory.logged_count in
       let first = is.memory.logged_first (omega (arith, count, low, high)) in
       (omega (arith, first, low), omega (arith, first, count, low, high))
@@ -102,20 +102,20 @@ module _ {L B : Type 0} where
   -- ---- in memory
 
   -- the engine is one with its numbers then
-  pub engine_front_gone : (e : EngineContent L B) (n : Numbers) (m : MemoryContent) (log backing : State) → IsEngine e log backing → e.down ≡ None → MayLog e.geometry e.numbers
+  pub engine_front_gone : (e : EngineContent L B) (n : Numbers) (m : MemoryContent) → IsEngine of_log of_backing e → e.down ≡ None → MayLog e.geometry e.numbers
       → n ≡ written e.numbers → IsFrontGone e.memory m → (m.places ≡ e.memory.places) × (m.segments ≡ e.memory.segments) × (m.logged.slots ≡ e.memory.logged.slots)
-      → IsEngine (record { geometry = e.geometry; numbers = n; absorbed = e.absorbed; down = e.down; log = e.log; backing = e.backing; memory = m }) log backing
-  engine_front_gone e n m log backing is up may numbers gone sizes =
+      → IsEngine of_log of_backing (record e { numbers = n; memory = m })
+  engine_front_gone e n m is up may numbers gone sizes =
       let level : e.numbers.tried ≡ e.numbers.logged = is.up up in
       let parts = one_and_rest e.memory.sealed (omega (arith, is.memory.count, may.0)) in
       let front : Segment = parts.0 in
       let rest : List Segment = parts.1 in
       let all : e.memory.sealed ≡ front ∷ rest = parts.2 in
-      let next : front.id ≡ e.numbers.logged + 1 = front_follows e log backing front rest is all in
+      let next : front.id ≡ e.numbers.logged + 1 = front_follows e front rest is all in
       let kept = gone.logged front rest all in
       let more : length m.logged.kept ≡ length e.memory.logged.kept + 1 = ap length kept.0 ∙ length_push e.memory.logged.kept (metas_of front.blocks) in
       let now : live m ≡ rest ++ e.memory.current ∷ [] = live_behind e.memory m front rest gone all in
-      subst (λ (k : Numbers). IsEngine (record { geometry = e.geometry; numbers = k; absorbed = e.absorbed; down = e.down; log = e.log; backing = e.backing; memory = m }) log backing) (sym numbers) (record {
+      subst (λ (k : Numbers). IsEngine of_log of_backing (record e { numbers = k; memory = m })) (sym numbers) (record {
         ordered = ordered_written is.ordered level (omega (arith, level, may.0)) (omega (arith, level, may.1));
         up = λ _. omega (arith, level);
         log_room = is.log_room;
@@ -142,7 +142,7 @@ module _ {L B : Type 0} where
           logged_first = λ some. omega (arith, kept.1, next, is.memory.logged_count, is.ordered.recorded, is.ordered.back, is.ordered.stable);
           logged_inside = subst (All (AreMetasInside e.geometry.backing_sectors)) (sym kept.0)
               (All-push (AreMetasInside e.geometry.backing_sectors) e.memory.logged.kept (metas_of front.blocks) is.memory.logged_inside
-              (metas_inside e.geometry.backing_sectors front.blocks (front_in_backing e log backing front rest is all)));
+              (metas_inside e.geometry.backing_sectors front.blocks (front_in_backing e front rest is all)));
         };
       })
 
@@ -156,9 +156,9 @@ record_untouched at text x y behind partly = elim (partly.each record_at) [
 ]
 
 -- a text of the front segment came into its slot, or some of its sectors did
-module _ {L B T E : Type 0} {result : Result T E} (old : EngineContent L B) (log new_log backing : State) (front : Segment) (rest : List Segment) (is : IsEngine old log backing) (up : old.down ≡ None)
-    (may : MayLog old.geometry old.numbers) (all : old.memory.sealed ≡ front ∷ rest) (writes : WritesSegment old.geometry front.id front.blocks log new_log result)
-    (same : IsSameDevice log new_log) (log_device : IsDevice log) (backing_device : IsDevice backing) where
+module _ {L B T E : Type 0} {of_log : L → State} {of_backing : B → State} {result : Result T E} (old : EngineContent L B) (l : L) (front : Segment) (rest : List Segment) (is : IsEngine of_log of_backing old) (up : old.down ≡ None)
+    (may : MayLog old.geometry old.numbers) (all : old.memory.sealed ≡ front ∷ rest) (writes : WritesSegment old.geometry front.id front.blocks (of_log old.log) (of_log l) result)
+    (same : IsSameDevice (of_log old.log) (of_log l)) (log_device : IsDevice (of_log old.log)) (backing_device : IsDevice (of_backing old.backing)) where
   level : old.numbers.tried ≡ old.numbers.logged
   level = is.up up
 
@@ -166,15 +166,15 @@ module _ {L B T E : Type 0} {result : Result T E} (old : EngineContent L B) (log
   waits = omega (arith, level, may.0)
 
   next : front.id ≡ old.numbers.logged + 1
-  next = front_follows old log backing front rest is all
+  next = front_follows old front rest is all
 
-  held : (base : Image) (history : List HistoryEntry) → Standing old log backing base history → AreHeld (line old base history).list (front ∷ (rest ++ old.memory.current ∷ []))
+  held : (base : Image) (history : List HistoryEntry) → Standing of_log of_backing old base history → AreHeld (line old base history).list (front ∷ (rest ++ old.memory.current ∷ []))
   held base history stands = subst (AreHeld (line old base history).list) (live_front old.memory front rest all) stands.memory
 
-  front_stands : (base : Image) (history : List HistoryEntry) → Standing old log backing base history → StandsFor front.blocks ((line old base history).list front.id)
+  front_stands : (base : Image) (history : List HistoryEntry) → Standing of_log of_backing old base history → StandsFor front.blocks ((line old base history).list front.id)
   front_stands base history stands = held_first (line old base history).list front (rest ++ old.memory.current ∷ []) (held base history stands)
 
-  next_text : (base : Image) (history : List HistoryEntry) → Standing old log backing base history
+  next_text : (base : Image) (history : List HistoryEntry) → Standing of_log of_backing old base history
       → IsNextText old.geometry (line old base history) old.numbers (slot_start old.geometry front.id) writes.text
   next_text base history stands =
       let follows : front.id ≡ old.numbers.tried + 1 = omega (arith, next, level) in
@@ -186,8 +186,8 @@ module _ {L B T E : Type 0} {result : Result T E} (old : EngineContent L B) (log
       }
 
   -- a crash in its course
-  crash : (base : Image) (history : List HistoryEntry) (stands : Standing old log backing base history)
-      → CrashInCall old.geometry (line old base history) old.numbers.stable (old.numbers.tried + 1) log new_log backing backing
+  crash : (base : Image) (history : List HistoryEntry) (stands : Standing of_log of_backing old base history)
+      → CrashInCall old.geometry (line old base history) old.numbers.stable (old.numbers.tried + 1) (of_log old.log) (of_log l) (of_backing old.backing) (of_backing old.backing)
   crash base history stands =
       log_next_word (next_text base history stands) stands.safe log_device backing_device level waits writes.crash
 
@@ -201,8 +201,8 @@ module _ {L B T E : Type 0} {result : Result T E} (old : EngineContent L B) (log
       let kept = gone.logged front rest all in
       elim (cases_lt old.numbers.logged s) [
         | inr before ↦
-            let there = metas_before old.memory.logged m.logged front.id s (metas_of front.blocks) (kept_follows old log backing front.id is next) kept.0 kept.1
-            (logged_there old log backing s is low before) in
+            let there = metas_before old.memory.logged m.logged front.id s (metas_of front.blocks) (kept_follows old front.id is next) kept.0 kept.1
+            (logged_there old s is low before) in
             subst (λ (metas : List Meta). IsListed metas (list s)) (sym there.1) (was s low before)
         | inl last ↦
             let last_is : front.id ≡ s = omega (arith, next, last, high) in
@@ -211,16 +211,16 @@ module _ {L B T E : Type 0} {result : Result T E} (old : EngineContent L B) (log
       ]
 
   -- the record is as it was
-  same_record : (base : Image) (history : List HistoryEntry) → Standing old log backing base history → (y : Image) → Shows new_log y → record_of y ≡ old.numbers.recorded
+  same_record : (base : Image) (history : List HistoryEntry) → Standing of_log of_backing old base history → (y : Image) → Shows (of_log l) y → record_of y ≡ old.numbers.recorded
   same_record base history stands y shows =
       let was = shown_from writes.crash writes.partly y shows in
       record_untouched (slot_start old.geometry front.id) writes.text was.0 y (omega arith) was.2 ∙ record_up stands up was.0 was.1
 
-  standing_wrote : (new : EngineContent L B) → IsStepTo old new (written old.numbers) None → IsFrontGone old.memory new.memory
-      → ContentPasses (λ x y. y ≡ overlay (slot_start old.geometry front.id) writes.text x) log new_log
-      → (base : Image) (history : List HistoryEntry) → Standing old log backing base history → Standing new new_log backing base history
+  standing_wrote : (new : EngineContent L B) → IsStepTo old new l (written old.numbers) None → IsFrontGone old.memory new.memory
+      → ContentPasses (λ x y. y ≡ overlay (slot_start old.geometry front.id) writes.text x) (of_log old.log) (of_log l)
+      → (base : Image) (history : List HistoryEntry) → Standing of_log of_backing old base history → Standing of_log of_backing new base history
   standing_wrote new to gone content base history stands =
-      standing_to old new (written old.numbers) None new_log backing base history to (record {
+      standing_to old new l (written old.numbers) None base history to (record {
         told = still_told writes.partly stands.told;
         places = stands.places;
         memory = subst (AreHeld (line old base history).list) (sym (live_behind old.memory new.memory front rest gone all))
@@ -230,10 +230,10 @@ module _ {L B T E : Type 0} {result : Result T E} (old : EngineContent L B) (log
         record_is = λ y shows. inl (same_record base history stands y shows);
       })
 
-  pub wrote_step : (new : EngineContent L B) → IsStepTo old new (written old.numbers) None → IsFrontGone old.memory new.memory
-      → ContentPasses (λ x y. y ≡ overlay (slot_start old.geometry front.id) writes.text x) log new_log → IsStep old new log new_log backing backing
+  pub wrote_step : (new : EngineContent L B) → IsStepTo old new l (written old.numbers) None → IsFrontGone old.memory new.memory
+      → ContentPasses (λ x y. y ≡ overlay (slot_start old.geometry front.id) writes.text x) (of_log old.log) (of_log l) → IsStep of_log of_backing old new
   wrote_step new to gone content =
-      step_on_log old new (written old.numbers) None log new_log backing to refl refl (omega arith) same (standing_wrote new to gone content)
+      step_on_log old new l (written old.numbers) None to refl refl (omega arith) same (standing_wrote new to gone content)
       (λ was. record {
         written_back = λ _. was.written_back up;
         written = λ _ even. absurd (omega (arith, even, ap (λ (n : Numbers). n.stable) to.numbers_are, ap (λ (n : Numbers). n.logged) to.numbers_are, is.ordered.stable));
@@ -242,9 +242,9 @@ module _ {L B T E : Type 0} {result : Result T E} (old : EngineContent L B) (log
 
   -- ---- it isn't
 
-  pub tried_step : (new : EngineContent L B) → IsStepTo old new (trying old.numbers) (Some Log) → new.memory ≡ old.memory → IsStep old new log new_log backing backing
+  pub tried_step : (new : EngineContent L B) → IsStepTo old new l (trying old.numbers) (Some Log) → new.memory ≡ old.memory → IsStep of_log of_backing old new
   tried_step new to memory =
-      failed_step old new (old.numbers.tried + 1) log new_log backing to memory same (still_told writes.partly)
+      failed_step old new (old.numbers.tried + 1) l to memory same (still_told writes.partly)
       (λ base history stands. safe_tried (next_text base history stands) stands.safe level waits writes.crash writes.partly)
       (λ base history stands y shows. inl (same_record base history stands y shows)) crash
 

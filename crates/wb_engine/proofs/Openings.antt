@@ -56,28 +56,29 @@ module _ {L B : Type 0} where
     up = up;
   }
 
-  pub standing_opened : (log new_log backing new_backing : State) (e : EngineContent L B) (base : Image) (found : Super) (has recorded room : ℕ) (scratch : List ℕ) → IsSuper log found
+module _ {L B : Type 0} {of_log : L → State} {of_backing : B → State} where
+  pub standing_opened : (log backing : State) (e : EngineContent L B) (base : Image) (found : Super) (has recorded room : ℕ) (scratch : List ℕ) → IsSuper log found
       → HasNoStray e.geometry recorded log → IsOpenedFor found has e.geometry recorded e.memory room scratch → e.numbers ≡ all_at recorded → e.absorbed ≡ 0
-      → NothingPending new_log → NothingPending new_backing → new_log.content ≡ log.content → new_backing.content ≡ backing.content
-      → IsOnly base (Told backing) → IsSome log.content → Standing e new_log new_backing base []
-  standing_opened log new_log backing new_backing e base found has recorded room scratch super stray is numbers absorbed log_none backing_none log_same backing_same only some =
+      → NothingPending (of_log e.log) → NothingPending (of_backing e.backing) → (of_log e.log).content ≡ log.content → (of_backing e.backing).content ≡ backing.content
+      → IsOnly base (Told backing) → IsSome log.content → Standing of_log of_backing e base []
+  standing_opened log backing e base found has recorded room scratch super stray is numbers absorbed log_none backing_none log_same backing_same only some =
       let n : ℕ = places e.geometry in
       let first : ℕ = e.numbers.first in
       let recorded_is : e.numbers.recorded ≡ recorded = ap (λ (k : Numbers). k.recorded) numbers in
       let few : recorded ≤ 2 ^ 48 = omega (arith, is.ids, is.number) in
-      let fresh : (x : Image) → new_log.content ≡ Some x → IsFresh e.geometry recorded x =
+      let fresh : (x : Image) → (of_log e.log).content ≡ Some x → IsFresh e.geometry recorded x =
       λ x told. log_fresh log e.geometry found recorded x super is.geometry is.number stray (sym log_same ∙ told) in
-      let backs : (y : Image) → new_backing.content ≡ Some y → y ≡ base = λ y told. only.only y (sym backing_same ∙ told) in
-      let safe : IsSafe e.geometry (line e base []) (all_at recorded) new_log new_backing =
+      let backs : (y : Image) → (of_backing e.backing).content ≡ Some y → y ≡ base = λ y told. only.only y (sym backing_same ∙ told) in
+      let safe : IsSafe e.geometry (line e base []) (all_at recorded) (of_log e.log) (of_backing e.backing) =
       opened recorded few (ap (λ (k : Numbers). k.first) numbers) log_none backing_none fresh backs in
       record {
         told = subst (λ (o : Option Image). IsSome o) (sym log_same) some;
         places = sym absorbed;
         memory = held_opened (segment n first []) e.memory.sealed e.memory.current is.sealed is.blocks (segment-none n first [] e.memory.current.id (omega arith));
         logged = λ s low high. absurd (omega (arith, low, high, recorded_is, ap (λ (k : Numbers). k.logged) numbers));
-        safe = subst (λ (k : Numbers). IsSafe e.geometry (line e base []) k new_log new_backing) (sym numbers) safe;
+        safe = subst (λ (k : Numbers). IsSafe e.geometry (line e base []) k (of_log e.log) (of_backing e.backing)) (sym numbers) safe;
         record_is = λ x shows. inl ((fresh x (shown_content log_none x shows)).number ∙ sym recorded_is);
       }
 
-  pub synced_opened : (log backing : State) (e : EngineContent L B) → NothingPending log → NothingPending backing → IsSynced e log backing
-  synced_opened log backing e log_none backing_none = record { written_back = λ up. backing_none; written = λ up all. log_none }
+  pub synced_opened : (e : EngineContent L B) → NothingPending (of_log e.log) → NothingPending (of_backing e.backing) → IsSynced of_log of_backing e
+  synced_opened e log_none backing_none = record { written_back = λ up. backing_none; written = λ up all. log_none }

@@ -17,7 +17,7 @@ use Rattle.wb_log.specs.Kept.{IsThere, metas_at, no_meta}
 use Rattle.wb_log.specs.Reading.{block_start}
 use Rattle.wb_back.specs.Plans.{PlanContent, IsArranged, AreInside}
 use Rattle.wb_back.proofs.Added.{WritesLast, WritesLast-none, WritesLast-more, WritesLast-all, length-added, AreInside-added, AreInside-arranged}
-use Rattle.wb_engine.specs.Memory.{MemoryContent, IsMemory}
+use Rattle.wb_memory.specs.Memory.{MemoryContent, IsMemory}
 use Rattle.wb_engine.specs.Stepping.{blocks_in_log, IsPlanOf}
 
 -- ---- the blocks of a segment in the log

@@ -4,8 +4,8 @@ use Rattle.std.specs.Int.{bit_at}
 use Rattle.std.proofs.lemmas.List.{length-map, get_or-map}
 use Rattle.std.proofs.lemmas.Nat.Bits.{bit_at-lt}
 use Rattle.std.proofs.lemmas.Bool.{cases_eq}
-use Rattle.wb_geometry.specs.Image.{Image, sector, sectors_of, bytes_at}
 use Rattle.wb_geometry.specs.Device.{State}
+use Rattle.wb_geometry.specs.Image.{Image, sector, sectors_of, bytes_at}
 use Rattle.wb_geometry.specs.History.{HistoryEntry, Write, last_write, written}
 use Rattle.wb_geometry.specs.Layout.{slot_start}
 use Rattle.wb_geometry.specs.declared.geometry.Geometry.{Geometry}
@@ -100,12 +100,12 @@ module _ (g : Geometry) (x : Image) (id : ℕ) (kept held : List TextBlock) (ent
 
 -- ---- of an engine
 
-module _ {L B : Type 0} where
+module _ {L B : Type 0} {of_log : L → State} {of_backing : B → State} where
   -- the blocks of a segment that is logged and not recorded, with what stands of them in its slot, write what its entries do
-  pub read_writes : (e : EngineContent L B) (log backing : State) (base : Image) (history : List HistoryEntry) (x : Image) (s : ℕ) → Standing e log backing base history → log.content ≡ Some x
+  pub read_writes : (e : EngineContent L B) (base : Image) (history : List HistoryEntry) (x : Image) (s : ℕ) → Standing of_log of_backing e base history → (of_log e.log).content ≡ Some x
       → e.numbers.recorded < s → s ≤ e.numbers.logged
       → (k : ℕ) → last_write k (entries_of (blocks_in_log e.geometry x s (metas_at e.memory.logged s))) ≡ last_write k ((line e base history).list s)
-  read_writes e log backing base history x s stands told low high k =
+  read_writes e base history x s stands told low high k =
       let listed = stands.logged s low high in
       let segment : HoldsSegment e.geometry (line e base history) x s = stands.safe.on_log.logged x told s low high in
       ap (λ (metas : List Meta). last_write k (entries_of (blocks_in_log e.geometry x s metas))) listed.kept

@@ -18,7 +18,7 @@ use Rattle.wb_table.specs.Tables.{BlockTable, spot_in}
 use Rattle.wb_crash.specs.declared.numbers.Numbers.{Numbers}
 use Rattle.wb_crash.proofs.Shown.{shown_before}
 use Rattle.wb_crash.proofs.Halves.{safe_log_kept, safe_backing_kept}
-use Rattle.wb_engine.specs.Memory.{MemoryContent}
+use Rattle.wb_memory.specs.Memory.{MemoryContent}
 use Rattle.wb_engine.specs.Content.{EngineContent}
 use Rattle.wb_engine.specs.Standing.{Standing, Told, IsSynced, IsSameEngine}
 use Rattle.wb_engine.specs.Reading.{on_backing, in_log}
@@ -110,22 +110,31 @@ nothing_read {old} {new} only nothing = record {
 }
 
 module _ {L B : Type 0} where
-  abbrev made : Geometry → Numbers → ℕ → Option Which → MemoryContent → L → B → EngineContent L B
-  made geometry numbers absorbed down memory log backing = record { geometry = geometry; numbers = numbers; absorbed = absorbed; down = down; log = log; backing = backing; memory = memory }
+  abbrev made : Geometry → Numbers → ℕ → Option Which → MemoryContent → EngineContent L B → EngineContent L B
+  made geometry numbers absorbed down memory e = record {
+    geometry = geometry;
+    numbers = numbers;
+    absorbed = absorbed;
+    down = down;
+    log = e.log;
+    backing = e.backing;
+    memory = memory;
+  }
 
-  same_engine : (old new : EngineContent L B) → IsSameEngine old new → made old.geometry old.numbers old.absorbed old.down old.memory new.log new.backing ≡ new
+  same_engine : (old new : EngineContent L B) → IsSameEngine old new → made old.geometry old.numbers old.absorbed old.down old.memory new ≡ new
   same_engine old new same =
-      ap (λ (g : Geometry). made g old.numbers old.absorbed old.down old.memory new.log new.backing) (sym same.geometry)
-      ∙ ap (λ (n : Numbers). made new.geometry n old.absorbed old.down old.memory new.log new.backing) (sym same.numbers)
-      ∙ ap (λ (n : ℕ). made new.geometry new.numbers n old.down old.memory new.log new.backing) (sym same.absorbed)
-      ∙ ap (λ (d : Option Which). made new.geometry new.numbers new.absorbed d old.memory new.log new.backing) (sym same.down)
-      ∙ ap (λ (m : MemoryContent). made new.geometry new.numbers new.absorbed new.down m new.log new.backing) (sym same.memory)
+      ap (λ (g : Geometry). made g old.numbers old.absorbed old.down old.memory new) (sym same.geometry)
+      ∙ ap (λ (n : Numbers). made new.geometry n old.absorbed old.down old.memory new) (sym same.numbers)
+      ∙ ap (λ (n : ℕ). made new.geometry new.numbers n old.down old.memory new) (sym same.absorbed)
+      ∙ ap (λ (d : Option Which). made new.geometry new.numbers new.absorbed d old.memory new) (sym same.down)
+      ∙ ap (λ (m : MemoryContent). made new.geometry new.numbers new.absorbed new.down m new) (sym same.memory)
 
+module _ {L B : Type 0} {of_log : L → State} {of_backing : B → State} where
   -- it stands for what it stood for
-  pub standing_read : (old new : EngineContent L B) (log new_log backing new_backing : State) (base : Image) (h : List HistoryEntry) → IsSameEngine old new → OnlyRead log new_log → OnlyRead backing new_backing
-      → Standing old log backing base h → Standing new new_log new_backing base h
-  standing_read old new log new_log backing new_backing base h same log_read backing_read stands =
-      subst (λ (e : EngineContent L B). Standing e new_log new_backing base h) (same_engine old new same) (record {
+  pub standing_read : (old new : EngineContent L B) (base : Image) (h : List HistoryEntry) → IsSameEngine old new → OnlyRead (of_log old.log) (of_log new.log)
+      → OnlyRead (of_backing old.backing) (of_backing new.backing) → Standing of_log of_backing old base h → Standing of_log of_backing new base h
+  standing_read old new base h same log_read backing_read stands =
+      subst (λ (e : EngineContent L B). Standing of_log of_backing e base h) (same_engine old new same) (record {
         told = subst (λ (o : Option Image). IsSome o) (sym log_read.content) stands.told;
         places = stands.places;
         memory = stands.memory;
@@ -135,14 +144,15 @@ module _ {L B : Type 0} where
       })
 
   -- and a crash leaves no more
-  pub synced_read : (old new : EngineContent L B) (log new_log backing new_backing : State) → IsSameEngine old new → OnlyRead log new_log → OnlyRead backing new_backing
-      → IsSynced old log backing → IsSynced new new_log new_backing
-  synced_read old new log new_log backing new_backing same log_read backing_read is =
-      subst (λ (e : EngineContent L B). IsSynced e new_log new_backing) (same_engine old new same) (record {
+  pub synced_read : (old new : EngineContent L B) → IsSameEngine old new → OnlyRead (of_log old.log) (of_log new.log) → OnlyRead (of_backing old.backing) (of_backing new.backing)
+      → IsSynced of_log of_backing old → IsSynced of_log of_backing new
+  synced_read old new same log_read backing_read is =
+      subst (IsSynced of_log of_backing) (same_engine old new same) (record {
         written_back = λ up. nothing_read backing_read (is.written_back up);
         written = λ up all. nothing_read log_read (is.written up all);
       })
 
+module _ {L B : Type 0} where
   same_same : (e : EngineContent L B) → IsSameEngine e e
   same_same e = record { geometry = refl; numbers = refl; absorbed = refl; down = refl; memory = refl }
 
@@ -158,22 +168,22 @@ module _ {L B : Type 0} where
 -- ---- the sectors so far
 
 -- the first sectors were read, and these are their bytes
-pub record IsReadTo {L B : Type 0} (old new : EngineContent L B) (log new_log backing new_backing : State) (at count : ℕ) (bytes : List ℕ) : Type 0 where
+pub record IsReadTo {L B : Type 0} (of_log : L → State) (of_backing : B → State) (old new : EngineContent L B) (at count : ℕ) (bytes : List ℕ) : Type 0 where
   pub same : IsSameEngine old new
-  pub log_read : OnlyRead log new_log
-  pub backing_read : OnlyRead backing new_backing
-  pub log_faults : new_log.faults ≡ log.faults
-  pub backing_faults : new_backing.faults ≡ backing.faults
-  pub log_reads : new_log.reads ≤ log.reads + in_log old.numbers.logged old.memory.lookup at count
-  pub backing_reads : new_backing.reads ≤ backing.reads + on_backing old.memory.lookup at count
-  pub bytes_are : (base image : Image) (h : List HistoryEntry) → Told backing image → Standing old log backing base h → bytes ≡ bytes_at (after base h) at count
+  pub log_read : OnlyRead (of_log old.log) (of_log new.log)
+  pub backing_read : OnlyRead (of_backing old.backing) (of_backing new.backing)
+  pub log_faults : (of_log new.log).faults ≡ (of_log old.log).faults
+  pub backing_faults : (of_backing new.backing).faults ≡ (of_backing old.backing).faults
+  pub log_reads : (of_log new.log).reads ≤ (of_log old.log).reads + in_log old.numbers.logged old.memory.lookup at count
+  pub backing_reads : (of_backing new.backing).reads ≤ (of_backing old.backing).reads + on_backing old.memory.lookup at count
+  pub bytes_are : (base image : Image) (h : List HistoryEntry) → Told (of_backing old.backing) image → Standing of_log of_backing old base h → bytes ≡ bytes_at (after base h) at count
 
-module _ {L B : Type 0} where
-  pub read_none : (e : EngineContent L B) (log backing : State) (at : ℕ) → IsReadTo e e log log backing backing at 0 []
-  read_none e log backing at = record {
+module _ {L B : Type 0} {of_log : L → State} {of_backing : B → State} where
+  pub read_none : (e : EngineContent L B) (at : ℕ) → IsReadTo of_log of_backing e e at 0 []
+  read_none e at = record {
     same = same_same e;
-    log_read = only_read log;
-    backing_read = only_read backing;
+    log_read = only_read (of_log e.log);
+    backing_read = only_read (of_backing e.backing);
     log_faults = refl;
     backing_faults = refl;
     log_reads = omega arith;
@@ -183,42 +193,45 @@ module _ {L B : Type 0} where
 
   -- how many reads the next one makes them at most
 
-  pub log_reads_next : {old mid : EngineContent L B} {log mid_log backing mid_backing : State} (now at count : ℕ) (bytes : List ℕ) → IsReadTo old mid log mid_log backing mid_backing at count bytes
-      → now ≤ mid_log.reads + in_log mid.numbers.logged mid.memory.lookup (at + count) 1 → now ≤ log.reads + in_log old.numbers.logged old.memory.lookup at (count + 1)
-  log_reads_next {old} {mid} {log} {mid_log} now at count bytes is few =
-      let first : mid_log.reads + in_log mid.numbers.logged mid.memory.lookup (at + count) 1 ≡ mid_log.reads + in_log old.numbers.logged old.memory.lookup (at + count) 1 =
-      ap (λ (n : Numbers). mid_log.reads + in_log n.logged mid.memory.lookup (at + count) 1) is.same.numbers
-      ∙ ap (λ (m : MemoryContent). mid_log.reads + in_log old.numbers.logged m.lookup (at + count) 1) is.same.memory in
-      many_next _ at count log.reads mid_log.reads now is.log_reads (subst (λ (n : ℕ). now ≤ n) first few)
+  pub log_reads_next : {old mid : EngineContent L B} (now at count : ℕ) (bytes : List ℕ) → IsReadTo of_log of_backing old mid at count bytes
+      → now ≤ (of_log mid.log).reads + in_log mid.numbers.logged mid.memory.lookup (at + count) 1 → now ≤ (of_log old.log).reads + in_log old.numbers.logged old.memory.lookup at (count + 1)
+  log_reads_next {old} {mid} now at count bytes is few =
+      let reads : ℕ = (of_log mid.log).reads in
+      let first : reads + in_log mid.numbers.logged mid.memory.lookup (at + count) 1 ≡ reads + in_log old.numbers.logged old.memory.lookup (at + count) 1 =
+      ap (λ (n : Numbers). reads + in_log n.logged mid.memory.lookup (at + count) 1) is.same.numbers
+      ∙ ap (λ (m : MemoryContent). reads + in_log old.numbers.logged m.lookup (at + count) 1) is.same.memory in
+      many_next _ at count (of_log old.log).reads reads now is.log_reads (subst (λ (n : ℕ). now ≤ n) first few)
 
-  pub backing_reads_next : {old mid : EngineContent L B} {log mid_log backing mid_backing : State} (now at count : ℕ) (bytes : List ℕ) → IsReadTo old mid log mid_log backing mid_backing at count bytes
-      → now ≤ mid_backing.reads + on_backing mid.memory.lookup (at + count) 1 → now ≤ backing.reads + on_backing old.memory.lookup at (count + 1)
-  backing_reads_next {old} {mid} {backing = backing} {mid_backing = mid_backing} now at count bytes is few =
-      let first : mid_backing.reads + on_backing mid.memory.lookup (at + count) 1 ≡ mid_backing.reads + on_backing old.memory.lookup (at + count) 1 =
-      ap (λ (m : MemoryContent). mid_backing.reads + on_backing m.lookup (at + count) 1) is.same.memory in
-      many_next _ at count backing.reads mid_backing.reads now is.backing_reads (subst (λ (n : ℕ). now ≤ n) first few)
+  pub backing_reads_next : {old mid : EngineContent L B} (now at count : ℕ) (bytes : List ℕ) → IsReadTo of_log of_backing old mid at count bytes
+      → now ≤ (of_backing mid.backing).reads + on_backing mid.memory.lookup (at + count) 1 → now ≤ (of_backing old.backing).reads + on_backing old.memory.lookup at (count + 1)
+  backing_reads_next {old} {mid} now at count bytes is few =
+      let reads : ℕ = (of_backing mid.backing).reads in
+      let first : reads + on_backing mid.memory.lookup (at + count) 1 ≡ reads + on_backing old.memory.lookup (at + count) 1 =
+      ap (λ (m : MemoryContent). reads + on_backing m.lookup (at + count) 1) is.same.memory in
+      many_next _ at count (of_backing old.backing).reads reads now is.backing_reads (subst (λ (n : ℕ). now ≤ n) first few)
 
   -- the sector behind them
-  pub next_sector : {old mid : EngineContent L B} {log mid_log backing mid_backing : State} (at count : ℕ) (bytes piece : List ℕ) → IsReadTo old mid log mid_log backing mid_backing at count bytes
-      → IsDevice mid_backing → at + count < mid_backing.sectors
-      → ((base image : Image) (h : List HistoryEntry) → Told mid_backing image → Standing mid mid_log mid_backing base h → piece ≡ sector (after base h) (at + count))
-      → (base image : Image) (h : List HistoryEntry) → Told backing image → Standing old log backing base h → bytes ++ piece ≡ bytes_at (after base h) at (count + 1)
-  next_sector {old} {mid} {log} {mid_log} {backing} {mid_backing} at count bytes piece is device inside read base image h told stands =
-      let now_told : Told mid_backing image = is.backing_read.content ∙ told in
-      let now_stands : Standing mid mid_log mid_backing base h = standing_read old mid log mid_log backing mid_backing base h is.same is.log_read is.backing_read stands in
-      let size : length image ≡ mid_backing.sectors = (device.content image now_told).size in
+  pub next_sector : {old mid : EngineContent L B} (at count : ℕ) (bytes piece : List ℕ) → IsReadTo of_log of_backing old mid at count bytes
+      → IsDevice (of_backing mid.backing) → at + count < (of_backing mid.backing).sectors
+      → ((base image : Image) (h : List HistoryEntry) → Told (of_backing mid.backing) image → Standing of_log of_backing mid base h → piece ≡ sector (after base h) (at + count))
+      → (base image : Image) (h : List HistoryEntry) → Told (of_backing old.backing) image → Standing of_log of_backing old base h → bytes ++ piece ≡ bytes_at (after base h) at (count + 1)
+  next_sector {old} {mid} at count bytes piece is device inside read base image h told stands =
+      let now_told : Told (of_backing mid.backing) image = is.backing_read.content ∙ told in
+      let now_stands : Standing of_log of_backing mid base h = standing_read old mid base h is.same is.log_read is.backing_read stands in
+      let size : length image ≡ (of_backing mid.backing).sectors = (device.content image now_told).size in
       let same_size : length image ≡ length base = (stands.safe.on_backing.shown image (inl told)).size in
       ap (λ (b : List ℕ). b ++ piece) (is.bytes_are base image h told stands)
       ∙ ap (λ (b : List ℕ). bytes_at (after base h) at count ++ b) (read base image h now_told now_stands)
       ∙ sym (bytes_at_more (after base h) at count (omega (arith, inside, size, same_size, length-after base h)))
 
-  pub read_more : {old mid new : EngineContent L B} {log mid_log new_log backing mid_backing new_backing : State} (at count : ℕ) (bytes piece whole : List ℕ)
-      → IsReadTo old mid log mid_log backing mid_backing at count bytes → IsDevice mid_backing → at + count < mid_backing.sectors
-      → ((base image : Image) (h : List HistoryEntry) → Told mid_backing image → Standing mid mid_log mid_backing base h → piece ≡ sector (after base h) (at + count))
-      → IsSameEngine mid new → OnlyRead mid_log new_log → OnlyRead mid_backing new_backing → new_log.faults ≡ mid_log.faults → new_backing.faults ≡ mid_backing.faults
-      → new_log.reads ≤ mid_log.reads + in_log mid.numbers.logged mid.memory.lookup (at + count) 1
-      → new_backing.reads ≤ mid_backing.reads + on_backing mid.memory.lookup (at + count) 1
-      → whole ≡ bytes ++ piece → IsReadTo old new log new_log backing new_backing at (count + 1) whole
+  pub read_more : {old mid new : EngineContent L B} (at count : ℕ) (bytes piece whole : List ℕ)
+      → IsReadTo of_log of_backing old mid at count bytes → IsDevice (of_backing mid.backing) → at + count < (of_backing mid.backing).sectors
+      → ((base image : Image) (h : List HistoryEntry) → Told (of_backing mid.backing) image → Standing of_log of_backing mid base h → piece ≡ sector (after base h) (at + count))
+      → IsSameEngine mid new → OnlyRead (of_log mid.log) (of_log new.log) → OnlyRead (of_backing mid.backing) (of_backing new.backing)
+      → (of_log new.log).faults ≡ (of_log mid.log).faults → (of_backing new.backing).faults ≡ (of_backing mid.backing).faults
+      → (of_log new.log).reads ≤ (of_log mid.log).reads + in_log mid.numbers.logged mid.memory.lookup (at + count) 1
+      → (of_backing new.backing).reads ≤ (of_backing mid.backing).reads + on_backing mid.memory.lookup (at + count) 1
+      → whole ≡ bytes ++ piece → IsReadTo of_log of_backing old new at (count + 1) whole
   read_more {old} {mid} {new} at count bytes piece whole is device inside read same log_only backing_only log_faults backing_faults log_reads backing_reads joined = record {
     same = same_trans old mid new is.same same;
     log_read = reads_only is.log_read log_only;

@@ -15,7 +15,7 @@ use Rattle.wb_crash.specs.Safety.{Shows}
 use Rattle.wb_crash.proofs.Shown.{shown_from, shown_content}
 use Rattle.wb_crash.proofs.Halves.{safe_record_tried, safe_recorded}
 use Rattle.wb_crash.proofs.Crash.{put_record_word}
-use Rattle.wb_engine.specs.Memory.{MemoryContent, live}
+use Rattle.wb_memory.specs.Memory.{MemoryContent, live}
 use Rattle.wb_engine.specs.Content.{EngineContent, IsEngine}
 use Rattle.wb_engine.specs.Standing.{Standing, IsListed, line}
 use Rattle.wb_engine.specs.Stepping.{IsStep}
@@ -36,8 +36,8 @@ live_kept id old new forgotten =
     ap (λ (segments : List Segment). segments ++ new.current ∷ []) forgotten.sealed ∙ ap (λ (current : Segment). old.sealed ++ current ∷ []) forgotten.current
 
 -- the log has the record, or may have it
-module _ {L B : Type 0} (old new : EngineContent L B) (log new_log backing : State) (is : IsEngine old log backing) (up : old.down ≡ None) (pass : Passes (RecordsOrNot old.numbers.back) log new_log)
-    (same : IsSameDevice log new_log) (log_device : IsDevice log) (backing_device : IsDevice backing) where
+module _ {L B : Type 0} {of_log : L → State} {of_backing : B → State} (old new : EngineContent L B) (l : L) (is : IsEngine of_log of_backing old) (up : old.down ≡ None) (pass : Passes (RecordsOrNot old.numbers.back) (of_log old.log) (of_log l))
+    (same : IsSameDevice (of_log old.log) (of_log l)) (log_device : IsDevice (of_log old.log)) (backing_device : IsDevice (of_backing old.backing)) where
   -- ---- it is answered `Ok`
 
   -- what is kept of the segments behind the record stands for them
@@ -46,13 +46,13 @@ module _ {L B : Type 0} (old new : EngineContent L B) (log new_log backing : Sta
       → (s : ℕ) → old.numbers.back < s → s ≤ old.numbers.logged → IsListed (metas_at m.logged s) (list s)
   listed m list forgotten was s low high =
       let above : old.numbers.recorded < s = omega (arith, low, is.ordered.recorded) in
-      let there = metas_behind old.memory.logged m.logged old.numbers.back s forgotten.kept forgotten.last (logged_there old log backing s is above high) low in
+      let there = metas_behind old.memory.logged m.logged old.numbers.back s forgotten.kept forgotten.last (logged_there old s is above high) low in
       subst (λ (metas : List Meta). IsListed metas (list s)) (sym there.1) (was s above high)
 
-  standing_recorded : IsStepTo old new (recording old.numbers) None → AreForgotten old.numbers.back old.memory new.memory → ContentPasses (Records old.numbers.back) log new_log → NothingPending new_log
-      → (base : Image) (history : List HistoryEntry) → Standing old log backing base history → Standing new new_log backing base history
+  standing_recorded : IsStepTo old new l (recording old.numbers) None → AreForgotten old.numbers.back old.memory new.memory → ContentPasses (Records old.numbers.back) (of_log old.log) (of_log l) → NothingPending (of_log l)
+      → (base : Image) (history : List HistoryEntry) → Standing of_log of_backing old base history → Standing of_log of_backing new base history
   standing_recorded to forgotten content nothing base history stands =
-      standing_to old new (recording old.numbers) None new_log backing base history to (record {
+      standing_to old new l (recording old.numbers) None base history to (record {
         told = still_told content stands.told;
         places = stands.places;
         memory = subst (AreHeld (line old base history).list) (sym (live_kept old.numbers.back old.memory new.memory forgotten)) stands.memory;
@@ -61,18 +61,18 @@ module _ {L B : Type 0} (old new : EngineContent L B) (log new_log backing : Sta
         record_is = λ y shows. inl (content.from y (shown_content nothing y shows)).2.number;
       })
 
-  pub recorded_step : IsStepTo old new (recording old.numbers) None → AreForgotten old.numbers.back old.memory new.memory → ContentPasses (Records old.numbers.back) log new_log → NothingPending new_log
-      → IsStep old new log new_log backing backing
+  pub recorded_step : IsStepTo old new l (recording old.numbers) None → AreForgotten old.numbers.back old.memory new.memory → ContentPasses (Records old.numbers.back) (of_log old.log) (of_log l) → NothingPending (of_log l)
+      → IsStep of_log of_backing old new
   recorded_step to forgotten content nothing =
-      step_on_log old new (recording old.numbers) None log new_log backing to refl refl (omega arith) same (standing_recorded to forgotten content nothing)
+      step_on_log old new l (recording old.numbers) None to refl refl (omega arith) same (standing_recorded to forgotten content nothing)
       (λ was. record { written_back = λ _. was.written_back up; written = λ _ _. nothing })
       (λ base history stands. put_record_word stands.safe log_device backing_device pass)
 
   -- ---- it isn't
 
   -- the record is the old one, or that of the write
-  old_or_next : ContentPasses (RecordsOrNot old.numbers.back) log new_log → (base : Image) (history : List HistoryEntry) → Standing old log backing base history
-      → (y : Image) → Shows new_log y → IsOldOrNext old.numbers y
+  old_or_next : ContentPasses (RecordsOrNot old.numbers.back) (of_log old.log) (of_log l) → (base : Image) (history : List HistoryEntry) → Standing of_log of_backing old base history
+      → (y : Image) → Shows (of_log l) y → IsOldOrNext old.numbers y
   old_or_next content base history stands y shows =
       let was = shown_from pass content y shows in
       elim was.2 [
@@ -80,8 +80,8 @@ module _ {L B : Type 0} (old new : EngineContent L B) (log new_log backing : Sta
         | inr records ↦ inr records.number
       ]
 
-  pub unrecorded_step : IsStepTo old new old.numbers (Some Log) → new.memory ≡ old.memory → ContentPasses (RecordsOrNot old.numbers.back) log new_log → IsStep old new log new_log backing backing
+  pub unrecorded_step : IsStepTo old new l old.numbers (Some Log) → new.memory ≡ old.memory → ContentPasses (RecordsOrNot old.numbers.back) (of_log old.log) (of_log l) → IsStep of_log of_backing old new
   unrecorded_step to memory content =
-      failed_step old new old.numbers.tried log new_log backing to memory same (still_told content) (λ base history stands. safe_record_tried stands.safe pass content)
+      failed_step old new old.numbers.tried l to memory same (still_told content) (λ base history stands. safe_record_tried stands.safe pass content)
       (old_or_next content)
       (λ base history stands. put_record_word stands.safe log_device backing_device pass)

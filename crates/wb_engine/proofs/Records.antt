@@ -14,8 +14,8 @@ abbrev pub IsOldOrNext : Numbers → Image → Type 0
 IsOldOrNext e x = (record_of x ≡ e.recorded) ⊎ (record_of x ≡ e.back)
 
 -- while the engine is up it is the one that was written last
-pub record_up : {L B : Type 0} {e : EngineContent L B} {log backing : State} {base : Image} {history : List HistoryEntry} → Standing e log backing base history → e.down ≡ None
-    → (x : Image) → Shows log x → record_of x ≡ e.numbers.recorded
+pub record_up : {L B : Type 0} {of_log : L → State} {of_backing : B → State} {e : EngineContent L B} {base : Image} {history : List HistoryEntry} → Standing of_log of_backing e base history → e.down ≡ None
+    → (x : Image) → Shows (of_log e.log) x → record_of x ≡ e.numbers.recorded
 record_up stands up x shows = elim (stands.record_is x shows) [
   | inl is ↦ is
   | inr failed ↦ absurd (let both = sym failed.0 ∙ up in cc)

@@ -40,8 +40,8 @@ flipped : {T U : Type 0} {r : Result T Which} {s : Result U Which} → IsAlike r
 flipped (BothOk x y) = BothOk y x
 flipped (BothErr which) = BothErr which
 
-module _ {L B T U : Type 0} {old new : EngineContent L B} {log new_log : State} where
-  pub logs_alike : {r : Result T Which} {s : Result U Which} → IsAlike r s → LogsNext old new log new_log r → LogsNext old new log new_log s
+module _ {L B T U : Type 0} {of_log : L → State} {of_backing : B → State} {old new : EngineContent L B} where
+  pub logs_alike : {r : Result T Which} {s : Result U Which} → IsAlike r s → LogsNext of_log of_backing old new r → LogsNext of_log of_backing old new s
   logs_alike (BothOk x y) does = record {
     writes = λ front rest is. segment_alike (BothOk x y) (does.writes front rest is);
     ok = does.ok;
@@ -61,8 +61,8 @@ module _ {L B T U : Type 0} {old new : EngineContent L B} {log new_log : State} 
     backing = does.backing;
   }
 
-  pub backs_alike : {backing new_backing : State} {r : Result T Which} {s : Result U Which} → IsAlike r s → WritesBack old new log new_log backing new_backing r
-      → WritesBack old new log new_log backing new_backing s
+  pub backs_alike : {r : Result T Which} {s : Result U Which} → IsAlike r s → WritesBack of_log of_backing old new r
+      → WritesBack of_log of_backing old new s
   backs_alike (BothOk x y) does = record {
     planned = does.planned;
     plan = does.plan;
@@ -94,7 +94,7 @@ module _ {L B T U : Type 0} {old new : EngineContent L B} {log new_log : State} 
     backing_cause = counts_where (err_alike Backing (BothErr which)) (err_alike Backing (BothErr which)) does.backing_cause;
   }
 
-  pub records_alike : {r : Result T Which} {s : Result U Which} → IsAlike r s → PutsRecord old new log new_log r → PutsRecord old new log new_log s
+  pub records_alike : {r : Result T Which} {s : Result U Which} → IsAlike r s → PutsRecord of_log of_backing old new r → PutsRecord of_log of_backing old new s
   records_alike (BothOk x y) does = record {
     content = does.content;
     left = does.left;
@@ -139,5 +139,5 @@ pub not_true : {P : Type 0} {b : Bool} → (P → IsTrue b) → b ≡ false → 
 not_true tests unset holds = let yes = tests holds in absurd (cc)
 
 -- ---- a turn in which there was nothing to do
-pub idle : {L B : Type 0} (e : EngineContent L B) (log backing : State) → IsDevice log → IsDevice backing → e.down ≡ None → IsStep e e log log backing backing
-idle e log backing log_device device up = unbacked e e log log backing log_device device up (only_read log) (record { geometry = refl; numbers = refl; absorbed = refl; memory = refl })
+pub idle : {L B : Type 0} {of_log : L → State} {of_backing : B → State} (e : EngineContent L B) → IsDevice (of_log e.log) → IsDevice (of_backing e.backing) → e.down ≡ None → IsStep of_log of_backing e e
+idle {of_log = of_log} e log_device device up = unbacked e e log_device device up (only_read (of_log e.log)) (record { geometry = refl; numbers = refl; absorbed = refl; memory = refl }) refl

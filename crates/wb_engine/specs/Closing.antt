@@ -11,8 +11,8 @@ abbrev pub last_id : {L B : Type 0} → EngineContent L B → ℕ
 last_id e = e.numbers.first + (e.absorbed + places e.geometry - 1) / places e.geometry
 
 -- all sealed segments were written back and recorded, unless the engine went down
-pub record IsDrained {L B : Type 0} (old new : EngineContent L B) (log new_log backing new_backing : State) : Type 0 where
-  pub moves : Moves old new log new_log backing new_backing
+pub record IsDrained {L B : Type 0} (of_log : L → State) (of_backing : B → State) (old new : EngineContent L B) : Type 0 where
+  pub moves : Moves of_log of_backing old new
   pub done : new.down ≡ None → new.numbers.recorded ≡ new.numbers.sealed
-  pub log_cause : CountsFaultsWhere (new.down ≡ Some Log) log.faults new_log.faults
-  pub backing_cause : CountsFaultsWhere (new.down ≡ Some Backing) backing.faults new_backing.faults
+  pub log_cause : CountsFaultsWhere (new.down ≡ Some Log) (of_log old.log).faults (of_log new.log).faults
+  pub backing_cause : CountsFaultsWhere (new.down ≡ Some Backing) (of_backing old.backing).faults (of_backing new.backing).faults

@@ -8,7 +8,7 @@ use Rattle.wb_header.specs.Segments.{Segment}
 use Rattle.wb_header.specs.declared.sealed.Meta.{Meta}
 use Rattle.wb_crash.specs.Images.{IsOrdered}
 use Rattle.wb_crash.specs.declared.numbers.Numbers.{Numbers}
-use Rattle.wb_engine.specs.Memory.{MemoryContent, live, segment_at}
+use Rattle.wb_memory.specs.Memory.{MemoryContent, live, segment_at}
 
 -- its numbers, both devices, and what it keeps in memory
 pub record EngineContent (L B : Type 0) : Type 0 where
@@ -53,11 +53,11 @@ pub record HoldsLive {L B : Type 0} (e : EngineContent L B) : Type 0 where
   pub logged_inside : All (AreMetasInside e.geometry.backing_sectors) e.memory.logged.kept
 
 -- what always holds of an engine
-pub record IsEngine {L B : Type 0} (e : EngineContent L B) (log backing : State) : Type 0 where
+pub record IsEngine {L B : Type 0} (of_log : L → State) (of_backing : B → State) (e : EngineContent L B) : Type 0 where
   pub ordered : IsOrdered e.geometry e.numbers
   -- while it is up no write to the log is under way
   pub up : e.down ≡ None → e.numbers.tried ≡ e.numbers.logged
-  pub log_room : log_sectors e.geometry ≤ log.sectors
-  pub backing_room : e.geometry.backing_sectors ≤ backing.sectors
+  pub log_room : log_sectors e.geometry ≤ (of_log e.log).sectors
+  pub backing_room : e.geometry.backing_sectors ≤ (of_backing e.backing).sectors
   pub filled : IsFilled e
   pub memory : HoldsLive e

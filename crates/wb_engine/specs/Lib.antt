@@ -1,7 +1,5 @@
 pub mod Closing
 pub mod Content
-pub mod Holding
-pub mod Memory
 pub mod Opening
 pub mod Reading
 pub mod Spots

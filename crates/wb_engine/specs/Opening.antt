@@ -8,7 +8,7 @@ use Rattle.wb_super.specs.Found.{IsSuper, Refuses}
 use Rattle.wb_super.specs.Superblock.{header_id}
 use Rattle.wb_super.specs.declared.reading.Super.{Super}
 use Rattle.wb_crash.specs.Numbers.{all_at}
-use Rattle.wb_engine.specs.Memory.{MemoryContent}
+use Rattle.wb_memory.specs.Memory.{MemoryContent}
 use Rattle.wb_engine.specs.Content.{EngineContent}
 use Rattle.wb_engine.specs.declared.opening.OpenCause.{OpenCause}
 use Rattle.wb_engine.specs.declared.opening.OpenCause.TheVariants as cause

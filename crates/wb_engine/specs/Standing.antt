@@ -18,7 +18,7 @@ use Rattle.wb_super.specs.Superblock.{record_of}
 use Rattle.wb_log.specs.Kept.{metas_of, metas_at}
 use Rattle.wb_crash.specs.Safety.{Shows, IsSafe}
 use Rattle.wb_crash.specs.declared.numbers.Numbers.{Numbers}
-use Rattle.wb_engine.specs.Memory.{MemoryContent, live, segment_at}
+use Rattle.wb_memory.specs.Memory.{MemoryContent, live, segment_at}
 use Rattle.wb_engine.specs.Content.{EngineContent, limit_of}
 
 -- the history, cut into the engine's segments
@@ -34,15 +34,15 @@ pub record IsListed (metas : List Meta) (entries : List HistoryEntry) : Type 0 w
 -- The log tells its content; the history has the places that were absorbed; the blocks of each segment in memory stand for
 -- its entries, and what is kept of each in the log is of such blocks; and the devices hold what they should, and would after
 -- a crash now.
-pub record Standing {L B : Type 0} (e : EngineContent L B) (log backing : State) (base : Image) (history : List HistoryEntry) : Type 0 where
-  pub told : IsSome log.content
+pub record Standing {L B : Type 0} (of_log : L → State) (of_backing : B → State) (e : EngineContent L B) (base : Image) (history : List HistoryEntry) : Type 0 where
+  pub told : IsSome (of_log e.log).content
   pub places : length history ≡ e.absorbed
   pub memory : (j : ℕ) → j < length (live e.memory)
       → StandsFor (segment_at (live e.memory) j).blocks ((line e base history).list (segment_at (live e.memory) j).id)
   pub logged : (s : ℕ) → e.numbers.recorded < s → s ≤ e.numbers.logged → IsListed (metas_at e.memory.logged s) ((line e base history).list s)
-  pub safe : IsSafe e.geometry (line e base history) e.numbers log backing
+  pub safe : IsSafe e.geometry (line e base history) e.numbers (of_log e.log) (of_backing e.backing)
   -- the record is the one that was written last, or else the engine is down by the log and it is the one whose write failed
-  pub record_is : (x : Image) → Shows log x → (record_of x ≡ e.numbers.recorded) ⊎ ((e.down ≡ Some Log) × (record_of x ≡ e.numbers.back))
+  pub record_is : (x : Image) → Shows (of_log e.log) x → (record_of x ≡ e.numbers.recorded) ⊎ ((e.down ≡ Some Log) × (record_of x ≡ e.numbers.back))
 
 -- a device's content, where it tells it
 abbrev pub Told : State → Image → Type 0
@@ -50,9 +50,9 @@ Told s y = s.content ≡ Some y
 
 -- While the engine is up a crash leaves of the backing device what a read gives, and of the log too unless a segment was
 -- written since the last sync.
-pub record IsSynced {L B : Type 0} (e : EngineContent L B) (log backing : State) : Type 0 where
-  pub written_back : e.down ≡ None → NothingPending backing
-  pub written : e.down ≡ None → e.numbers.stable ≡ e.numbers.logged → NothingPending log
+pub record IsSynced {L B : Type 0} (of_log : L → State) (of_backing : B → State) (e : EngineContent L B) : Type 0 where
+  pub written_back : e.down ≡ None → NothingPending (of_backing e.backing)
+  pub written : e.down ≡ None → e.numbers.stable ≡ e.numbers.logged → NothingPending (of_log e.log)
 
 -- a write has a dirty sector, and its block is inside; another entry isn't the first of a segment
 abbrev pub Fits : {L B : Type 0} → EngineContent L B → Entry → Type 0

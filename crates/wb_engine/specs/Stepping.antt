@@ -45,26 +45,26 @@ MayRecord e = e.recorded < e.back
 -- ---- what each step does, in full or until a device fails
 
 -- The text of the oldest sealed segment came into its slot, and nothing else was written or synced.
-pub record LogsNext {L B T : Type 0} (old new : EngineContent L B) (log new_log : State) (result : Result T Which) : Type 0 where
-  pub writes : (front : Segment) (rest : List Segment) → old.memory.sealed ≡ front ∷ rest → WritesSegment old.geometry front.id front.blocks log new_log result
+pub record LogsNext {L B T : Type 0} (of_log : L → State) (of_backing : B → State) (old new : EngineContent L B) (result : Result T Which) : Type 0 where
+  pub writes : (front : Segment) (rest : List Segment) → old.memory.sealed ≡ front ∷ rest → WritesSegment old.geometry front.id front.blocks (of_log old.log) (of_log new.log) result
   pub ok : OnOk result ((new.numbers ≡ written old.numbers) × (new.down ≡ None))
   pub failed : IfErr result (λ which. (which ≡ Log) × (new.numbers ≡ trying old.numbers) × (new.down ≡ Some Log))
-  pub cause : HasCause log new_log result
-  pub syncs : new_log.syncs ≡ log.syncs
-  pub reads : new_log.reads ≡ log.reads
+  pub cause : HasCause (of_log old.log) (of_log new.log) result
+  pub syncs : (of_log new.log).syncs ≡ (of_log old.log).syncs
+  pub reads : (of_log new.log).reads ≡ (of_log old.log).reads
   pub backing : new.backing ≡ old.backing
 
 -- The log was synced, by which all that is logged is stable.
-pub record SyncsLog {L B T : Type 0} (old new : EngineContent L B) (log new_log : State) (result : Result T Which) : Type 0 where
-  pub content : new_log.content ≡ log.content
-  pub left : Passes (λ x y. y ≡ x) log new_log
-  pub durable : OnOk result (NothingPending new_log)
+pub record SyncsLog {L B T : Type 0} (of_log : L → State) (of_backing : B → State) (old new : EngineContent L B) (result : Result T Which) : Type 0 where
+  pub content : (of_log new.log).content ≡ (of_log old.log).content
+  pub left : Passes (λ x y. y ≡ x) (of_log old.log) (of_log new.log)
+  pub durable : OnOk result (NothingPending (of_log new.log))
   pub ok : OnOk result ((new.numbers ≡ synced old.numbers) × (new.down ≡ None))
   pub failed : IfErr result (λ which. (which ≡ Log) × (new.numbers ≡ old.numbers) × (new.down ≡ Some Log))
-  pub cause : HasCause log new_log result
-  pub syncs : OnOk result (new_log.syncs ≡ next_count log.syncs)
-  pub not_synced : OnErr result ((log.syncs ≤ new_log.syncs) × (new_log.syncs ≤ next_count log.syncs))
-  pub reads : new_log.reads ≡ log.reads
+  pub cause : HasCause (of_log old.log) (of_log new.log) result
+  pub syncs : OnOk result ((of_log new.log).syncs ≡ next_count (of_log old.log).syncs)
+  pub not_synced : OnErr result (((of_log old.log).syncs ≤ (of_log new.log).syncs) × ((of_log new.log).syncs ≤ next_count (of_log old.log).syncs))
+  pub reads : (of_log new.log).reads ≡ (of_log old.log).reads
   pub backing : new.backing ≡ old.backing
 
 -- the blocks of segment `id`, of which this is kept, with the bytes that stand in its slot
@@ -79,56 +79,56 @@ pub record IsPlanOf (g : Geometry) (id : ℕ) (metas : List Meta) (log : State) 
 
 -- The next segment was read from the log, by a read a block at most, and its blocks put to the backing device, which was
 -- synced once.
-pub record WritesBack {L B T : Type 0} (old new : EngineContent L B) (log new_log backing new_backing : State) (result : Result T Which) : Type 0 where
+pub record WritesBack {L B T : Type 0} (of_log : L → State) (of_backing : B → State) (old new : EngineContent L B) (result : Result T Which) : Type 0 where
   pub planned : List TextBlock
-  pub plan : OnOk result (IsPlanOf old.geometry (old.numbers.back + 1) (metas_at old.memory.logged (old.numbers.back + 1)) log planned)
-  pub content : OnOk result (ContentPasses (λ y z. z ≡ after y (entries_of planned)) backing new_backing)
-  pub durable : OnOk result (NothingPending new_backing)
-  pub syncs : OnOk result (new_backing.syncs ≡ next_count backing.syncs)
-  pub not_synced : OnErr result ((backing.syncs ≤ new_backing.syncs) × (new_backing.syncs ≤ next_count backing.syncs))
-  pub only_read : OnlyRead log new_log
-  pub log_reads : new_log.reads ≤ log.reads + length (metas_at old.memory.logged (old.numbers.back + 1))
-  pub reads : new_backing.reads ≡ backing.reads
+  pub plan : OnOk result (IsPlanOf old.geometry (old.numbers.back + 1) (metas_at old.memory.logged (old.numbers.back + 1)) (of_log old.log) planned)
+  pub content : OnOk result (ContentPasses (λ y z. z ≡ after y (entries_of planned)) (of_backing old.backing) (of_backing new.backing))
+  pub durable : OnOk result (NothingPending (of_backing new.backing))
+  pub syncs : OnOk result ((of_backing new.backing).syncs ≡ next_count (of_backing old.backing).syncs)
+  pub not_synced : OnErr result (((of_backing old.backing).syncs ≤ (of_backing new.backing).syncs) × ((of_backing new.backing).syncs ≤ next_count (of_backing old.backing).syncs))
+  pub only_read : OnlyRead (of_log old.log) (of_log new.log)
+  pub log_reads : (of_log new.log).reads ≤ (of_log old.log).reads + length (metas_at old.memory.logged (old.numbers.back + 1))
+  pub reads : (of_backing new.backing).reads ≡ (of_backing old.backing).reads
   pub ok : OnOk result ((new.numbers ≡ put_up_to (old.numbers.back + 1) old.numbers) × (new.down ≡ None))
   pub failed : IfErr result (λ which. (new.numbers ≡ old.numbers) × (new.down ≡ Some which))
-  pub log_cause : CountsFaultsWhere (result ≡ Err Log) log.faults new_log.faults
-  pub backing_cause : CountsFaultsWhere (result ≡ Err Backing) backing.faults new_backing.faults
+  pub log_cause : CountsFaultsWhere (result ≡ Err Log) (of_log old.log).faults (of_log new.log).faults
+  pub backing_cause : CountsFaultsWhere (result ≡ Err Backing) (of_backing old.backing).faults (of_backing new.backing).faults
 
 -- The record was written, by one write and one sync.
-pub record PutsRecord {L B T : Type 0} (old new : EngineContent L B) (log new_log : State) (result : Result T Which) : Type 0 where
-  pub content : OnOk result (ContentPasses (Records old.numbers.back) log new_log)
-  pub left : Passes (RecordsOrNot old.numbers.back) log new_log
-  pub durable : OnOk result (NothingPending new_log)
+pub record PutsRecord {L B T : Type 0} (of_log : L → State) (of_backing : B → State) (old new : EngineContent L B) (result : Result T Which) : Type 0 where
+  pub content : OnOk result (ContentPasses (Records old.numbers.back) (of_log old.log) (of_log new.log))
+  pub left : Passes (RecordsOrNot old.numbers.back) (of_log old.log) (of_log new.log)
+  pub durable : OnOk result (NothingPending (of_log new.log))
   pub ok : OnOk result ((new.numbers ≡ recording old.numbers) × (new.down ≡ None))
   pub failed : IfErr result (λ which. (which ≡ Log) × (new.numbers ≡ old.numbers) × (new.down ≡ Some Log))
-  pub cause : HasCause log new_log result
-  pub syncs : OnOk result (new_log.syncs ≡ next_count log.syncs)
-  pub not_synced : OnErr result ((log.syncs ≤ new_log.syncs) × (new_log.syncs ≤ next_count log.syncs))
-  pub reads : new_log.reads ≡ log.reads
+  pub cause : HasCause (of_log old.log) (of_log new.log) result
+  pub syncs : OnOk result ((of_log new.log).syncs ≡ next_count (of_log old.log).syncs)
+  pub not_synced : OnErr result (((of_log old.log).syncs ≤ (of_log new.log).syncs) × ((of_log new.log).syncs ≤ next_count (of_log old.log).syncs))
+  pub reads : (of_log new.log).reads ≡ (of_log old.log).reads
   pub backing : new.backing ≡ old.backing
 
 -- ---- what each step keeps
 
 -- The engine went on, and its devices with it: it stands for what it stood for, what was stable still is, and no sector of the
 -- backing device changed, or is changed by a crash, but to what an entry of the history writes.
-pub record Moves {L B : Type 0} (old new : EngineContent L B) (log new_log backing new_backing : State) : Type 0 where
-  pub stands : (base : Image) (history : List HistoryEntry) → Standing old log backing base history → Standing new new_log new_backing base history
-  pub changed : (base : Image) (history : List HistoryEntry) → Standing old log backing base history → ContentPasses (PutsPartly history) backing new_backing
-  pub left : (base : Image) (history : List HistoryEntry) → Standing old log backing base history → Passes (PutsPartly history) backing new_backing
-  pub synced : IsSynced old log backing → IsSynced new new_log new_backing
+pub record Moves {L B : Type 0} (of_log : L → State) (of_backing : B → State) (old new : EngineContent L B) : Type 0 where
+  pub stands : (base : Image) (history : List HistoryEntry) → Standing of_log of_backing old base history → Standing of_log of_backing new base history
+  pub changed : (base : Image) (history : List HistoryEntry) → Standing of_log of_backing old base history → ContentPasses (PutsPartly history) (of_backing old.backing) (of_backing new.backing)
+  pub left : (base : Image) (history : List HistoryEntry) → Standing of_log of_backing old base history → Passes (PutsPartly history) (of_backing old.backing) (of_backing new.backing)
+  pub synced : IsSynced of_log of_backing old → IsSynced of_log of_backing new
   pub geometry : new.geometry ≡ old.geometry
   pub absorbed : new.absorbed ≡ old.absorbed
   pub first : new.numbers.first ≡ old.numbers.first
   pub sealed : new.numbers.sealed ≡ old.numbers.sealed
   pub stable : old.numbers.stable ≤ new.numbers.stable
-  pub same_log : IsSameDevice log new_log
-  pub same_backing : IsSameDevice backing new_backing
+  pub same_log : IsSameDevice (of_log old.log) (of_log new.log)
+  pub same_backing : IsSameDevice (of_backing old.backing) (of_backing new.backing)
 
 -- So it did in a step, and a crash in the step's course loses nothing that was stable before it.
-pub record IsStep {L B : Type 0} (old new : EngineContent L B) (log new_log backing new_backing : State) : Type 0 where
-  pub moves : Moves old new log new_log backing new_backing
-  pub crash : (base : Image) (history : List HistoryEntry) → Standing old log backing base history
-      → CrashInCall old.geometry (line old base history) old.numbers.stable new.numbers.tried log new_log backing new_backing
+pub record IsStep {L B : Type 0} (of_log : L → State) (of_backing : B → State) (old new : EngineContent L B) : Type 0 where
+  pub moves : Moves of_log of_backing old new
+  pub crash : (base : Image) (history : List HistoryEntry) → Standing of_log of_backing old base history
+      → CrashInCall old.geometry (line old base history) old.numbers.stable new.numbers.tried (of_log old.log) (of_log new.log) (of_backing old.backing) (of_backing new.backing)
 
 -- ---- a turn
 
@@ -137,14 +137,14 @@ abbrev pub Says : Turn → Result Turn Which → Type 0
 Says is result = IfOk result (λ turn. turn ≡ is)
 
 -- A turn does the first of the four steps that can be made, or nothing where none can.
-abbrev pub IsTurn : {L B : Type 0} (old new : EngineContent L B) (log new_log backing new_backing : State) → Result Turn Which → Type 0
-IsTurn old new log new_log backing new_backing result =
-    (MayLog old.geometry old.numbers × LogsNext old new log new_log result × Says turn.Logged result)
-    ⊎ ((MayLog old.geometry old.numbers → ⊥) × MaySync old.numbers × SyncsLog old new log new_log result × Says turn.Synced result)
+abbrev pub IsTurn : {L B : Type 0} (of_log : L → State) (of_backing : B → State) (old new : EngineContent L B) → Result Turn Which → Type 0
+IsTurn of_log of_backing old new result =
+    (MayLog old.geometry old.numbers × LogsNext of_log of_backing old new result × Says turn.Logged result)
+    ⊎ ((MayLog old.geometry old.numbers → ⊥) × MaySync old.numbers × SyncsLog of_log of_backing old new result × Says turn.Synced result)
     ⊎ ((MayLog old.geometry old.numbers → ⊥) × (MaySync old.numbers → ⊥) × MayBack old.numbers
-    × WritesBack old new log new_log backing new_backing result × Says turn.Backed result)
+    × WritesBack of_log of_backing old new result × Says turn.Backed result)
     ⊎ ((MayLog old.geometry old.numbers → ⊥) × (MaySync old.numbers → ⊥) × (MayBack old.numbers → ⊥) × MayRecord old.numbers
-    × PutsRecord old new log new_log result × Says turn.Recorded result)
+    × PutsRecord of_log of_backing old new result × Says turn.Recorded result)
     ⊎ ((MayLog old.geometry old.numbers → ⊥) × (MaySync old.numbers → ⊥) × (MayBack old.numbers → ⊥) × (MayRecord old.numbers → ⊥)
     × (result ≡ Ok turn.Idle) × (new ≡ old))
 

@@ -6,7 +6,7 @@ ghost use Rattle.wb_geometry.specs.Entering.{entered};
 ghost use Rattle.wb_engine.specs.Standing.{Standing, IsSynced, MayCome, IsOffDevices, IsDirty, Keeps, IsSealedIfFull, numbers_at};
 
 use crate::engine::Engine;
-use crate::memory::Memory;
+use wb_memory::Memory;
 use wb_crash::Numbers;
 use wb_device::Device;
 use wb_geometry::Entry;
@@ -17,9 +17,9 @@ impl<L: Device, B: Device> Engine<L, B> {
     /// another entry may not be the first of its segment. A segment that is full is sealed. Neither device is called.
     pub fn absorb(&mut self, entry: Entry)
         requires { MayCome self.old entry }
-        ensures stands { (base : Image) (history : List HistoryEntry) → Standing self.old (L.state self.old.log) (B.state self.old.backing) base history
-            → Standing self.new (L.state self.new.log) (B.state self.new.backing) base (history ++ entered entry ∷ []) }
-        ensures synced { IsSynced self.old (L.state self.old.log) (B.state self.old.backing) → IsSynced self.new (L.state self.new.log) (B.state self.new.backing) }
+        ensures stands { (base : Image) (history : List HistoryEntry) → Standing L.state B.state self.old base history
+            → Standing L.state B.state self.new base (history ++ entered entry ∷ []) }
+        ensures synced { IsSynced L.state B.state self.old → IsSynced L.state B.state self.new }
         ensures absorbed { self.new.absorbed ≡ self.old.absorbed + 1 }
         ensures numbers { self.new.numbers ≡ numbers_at self.old.geometry self.old.numbers (self.old.absorbed + 1) }
         ensures kept { IsOffDevices self.old self.new }

@@ -31,19 +31,19 @@ impl<L: Device, B: Device> Engine<L, B> {
     /// recorded. Where it is down, neither device is called. `fault` is there exactly where the engine was down or went
     /// down in this call.
     pub fn close(self) -> Closed<L, B>
-        ensures content { result.fault ≡ None → (base : Image) (history : List HistoryEntry) → Standing self (L.state self.log) (B.state self.backing) base history
+        ensures content { result.fault ≡ None → (base : Image) (history : List HistoryEntry) → Standing L.state B.state self base history
             → (image : Image) → Told (B.state result.backing) image → image ≡ after base history }
-        ensures empty { result.fault ≡ None → (base : Image) (history : List HistoryEntry) → Standing self (L.state self.log) (B.state self.backing) base history
+        ensures empty { result.fault ≡ None → (base : Image) (history : List HistoryEntry) → Standing L.state B.state self base history
             → (image : Image) → Told (L.state result.log) image → IsChain self.geometry image [] }
-        ensures recorded { result.fault ≡ None → (base : Image) (history : List HistoryEntry) → Standing self (L.state self.log) (B.state self.backing) base history
+        ensures recorded { result.fault ≡ None → (base : Image) (history : List HistoryEntry) → Standing L.state B.state self base history
             → (image : Image) → Told (L.state result.log) image → (record_of image ≡ last_id self) × SuperText image self.geometry 1 }
-        ensures crash { (base : Image) (history : List HistoryEntry) → Standing self (L.state self.log) (B.state self.backing) base history
+        ensures crash { (base : Image) (history : List HistoryEntry) → Standing L.state B.state self base history
             → CrashNow self.geometry (line self base history) self.numbers.stable (last_id self) (L.state result.log) (B.state result.backing) }
-        ensures changed { (base : Image) (history : List HistoryEntry) → Standing self (L.state self.log) (B.state self.backing) base history
+        ensures changed { (base : Image) (history : List HistoryEntry) → Standing L.state B.state self base history
             → ContentPasses (PutsPartly history) (B.state self.backing) (B.state result.backing) }
-        ensures left { (base : Image) (history : List HistoryEntry) → Standing self (L.state self.log) (B.state self.backing) base history
+        ensures left { (base : Image) (history : List HistoryEntry) → Standing L.state B.state self base history
             → Passes (PutsPartly history) (B.state self.backing) (B.state result.backing) }
-        ensures durable { result.fault ≡ None → IsSynced self (L.state self.log) (B.state self.backing)
+        ensures durable { result.fault ≡ None → IsSynced L.state B.state self
             → NothingPending (L.state result.log) × NothingPending (B.state result.backing) }
         ensures was_down { IfSome self.down (λ which. (result.fault ≡ Some which) × (result.log ≡ self.log) × (result.backing ≡ self.backing)) }
         ensures log_cause { self.down ≡ None → CountsFaultsWhere (result.fault ≡ Some Log) (L.state self.log).faults (L.state result.log).faults }
@@ -68,9 +68,9 @@ impl<L: Device, B: Device> Engine<L, B> {
     /// Fills the open segment, where it is begun, with places that change nothing, so that it is sealed.
     fn fill_open(&mut self)
         ensures filled { self.new.absorbed % places self.new.geometry ≡ 0 }
-        ensures stands { (base : Image) (history : List HistoryEntry) → Standing self.old (L.state self.old.log) (B.state self.old.backing) base history
-            → (voids : ℕ) × Standing self.new (L.state self.new.log) (B.state self.new.backing) base (history ++ replicate voids (Void 0)) }
-        ensures synced { IsSynced self.old (L.state self.old.log) (B.state self.old.backing) → IsSynced self.new (L.state self.new.log) (B.state self.new.backing) }
+        ensures stands { (base : Image) (history : List HistoryEntry) → Standing L.state B.state self.old base history
+            → (voids : ℕ) × Standing L.state B.state self.new base (history ++ replicate voids (Void 0)) }
+        ensures synced { IsSynced L.state B.state self.old → IsSynced L.state B.state self.new }
         ensures sealed { self.new.numbers.sealed ≡ last_id self.old }
         ensures cut { self.new.numbers.sealed ≡ self.new.numbers.first + self.new.absorbed / places self.new.geometry }
         ensures first { self.new.numbers.first ≡ self.old.numbers.first }
@@ -90,7 +90,7 @@ impl<L: Device, B: Device> Engine<L, B> {
     /// Makes turns until there is nothing to do, or a device fails.
     fn drain(&mut self)
         requires { self.old.down ≡ None }
-        ensures drained { IsDrained self.old self.new (L.state self.old.log) (L.state self.new.log) (B.state self.old.backing) (B.state self.new.backing) }
+        ensures drained { IsDrained L.state B.state self.old self.new }
         ensures ordered { self.new.down ≡ None → IsOrdered self.new.geometry self.new.numbers }
     {
         while self.down.is_none() {

@@ -10,7 +10,7 @@ ghost use Rattle.wb_engine.specs.Content.{IsEngine, limit_of};
 ghost use Rattle.wb_engine.specs.Standing.{Standing, line};
 ghost use Rattle.wb_engine.specs.Spots.{IsNewestSpot};
 
-use crate::memory::Memory;
+use wb_memory::Memory;
 use std::marker::Model;
 use wb_back::Plan;
 use wb_crash::Numbers;
@@ -44,14 +44,14 @@ impl<L: Device, B: Device> Model for Engine<L, B> {
 
     ghost view = { λ e. record { geometry = e.geometry; numbers = e.numbers; absorbed = e.absorbed; down = e.down; log = e.log; backing = e.backing; memory = e.memory } };
 
-    ghost invariant = { λ e. IsEngine (record { geometry = e.geometry; numbers = e.numbers; absorbed = e.absorbed; down = e.down; log = e.log; backing = e.backing; memory = e.memory }) (L.state e.log) (B.state e.backing) × (places e.geometry ≤ e.plan.room) × (length e.scratch.items ≡ 512 * slot_sectors e.geometry) };
+    ghost invariant = { λ e. IsEngine L.state B.state (record { geometry = e.geometry; numbers = e.numbers; absorbed = e.absorbed; down = e.down; log = e.log; backing = e.backing; memory = e.memory }) × (places e.geometry ≤ e.plan.room) × (length e.scratch.items ≡ 512 * slot_sectors e.geometry) };
 }
 
 impl<L: Device, B: Device> Engine<L, B> {
     /// The numbers of the cache.
     pub fn geometry(&self) -> &Geometry
         ensures geometry { result.now ≡ self.now.geometry }
-        ensures sound { IsEngine self.now (L.state self.now.log) (B.state self.now.backing) }
+        ensures sound { IsEngine L.state B.state self.now }
     {
         &self.geometry
     }
@@ -103,7 +103,7 @@ impl<L: Device, B: Device> Engine<L, B> {
     /// block's index in that segment; or id 0 and index 0 where there is none.
     pub fn spots(&self, block: u64) -> [Spot; 8]
         requires { 8 * block + 8 ≤ self.now.geometry.backing_sectors }
-        ensures newest { (base : Image) (history : List HistoryEntry) → Standing self.now (L.state self.now.log) (B.state self.now.backing) base history → (i : ℕ) → i < 8
+        ensures newest { (base : Image) (history : List HistoryEntry) → Standing L.state B.state self.now base history → (i : ℕ) → i < 8
             → IsNewestSpot (line self.now base history) self.now.numbers.recorded (self.now.numbers.sealed + 1) block i (slice_index_or result i nowhere) }
         ensures table { (i : ℕ) → i < 8 → slice_index_or result i nowhere ≡ spot_in self.now.memory.lookup block i }
     {

@@ -6,7 +6,6 @@
 mod absorbing;
 mod closing;
 mod engine;
-mod memory;
 mod opening;
 mod reading;
 mod stepping;

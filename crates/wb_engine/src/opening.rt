@@ -10,7 +10,7 @@ ghost use Rattle.wb_engine.specs.Standing.{Standing, Told, IsSynced};
 ghost use Rattle.wb_engine.specs.Opening.{IsOpened, IsOnly, IsOnlySynced, HasNoStray, RefusesSlots, RefusesOpening, IsEarly, IsLate, MayOpen, IsOpenedFor, most_recorded};
 
 use crate::engine::Engine;
-use crate::memory::Memory;
+use wb_memory::Memory;
 use std::alloc::{AllocError, Global};
 use wb_back::Plan;
 use wb_crash::Numbers;
@@ -69,8 +69,8 @@ impl<L: Device, B: Device> Engine<L, B> {
     pub fn open(alloc: Global, log: L, backing: B) -> Result<Engine<L, B>, OpenStop<L, B>>
         ensures fresh { IfOk result (IsOpened (L.state log)) }
         ensures stands { IfOk result (λ e. (base : Image) → IsOnly base (Told (B.state backing)) → IsSome (L.state log).content
-            → Standing e (L.state e.log) (B.state e.backing) base []) }
-        ensures synced { IfOk result (λ e. IsSynced e (L.state e.log) (B.state e.backing)) }
+            → Standing L.state B.state e base []) }
+        ensures synced { IfOk result (λ e. IsSynced L.state B.state e) }
         ensures log { IfOk result (λ e. IsOnlySynced (L.state log) (L.state e.log) × ((L.state e.log).faults ≡ (L.state log).faults)) }
         ensures backing { IfOk result (λ e. IsOnlySynced (B.state backing) (B.state e.backing) × ((B.state e.backing).faults ≡ (B.state backing).faults)) }
         ensures refused { IfErr result (λ stop. RefusesOpening (L.state log) (B.state backing).sectors stop.cause) }

@@ -9,7 +9,7 @@ ghost use Rattle.wb_engine.specs.Standing.{Standing, Told, IsSynced, IsSameEngin
 ghost use Rattle.wb_engine.specs.Reading.{on_backing, in_log};
 
 use crate::engine::Engine;
-use crate::memory::Newest;
+use wb_memory::Newest;
 use wb_device::{Device, DeviceFault};
 use wb_geometry::Which;
 use wb_log::read_sector;
@@ -25,11 +25,11 @@ impl<L: Device, B: Device> Engine<L, B> {
         requires some { 512 ≤ length into.old }
         requires inside { sector + length into.old / 512 ≤ self.old.geometry.backing_sectors }
         ensures ok { OnOk result ((base image : Image) (history : List HistoryEntry) → Told (B.state self.old.backing) image
-            → Standing self.old (L.state self.old.log) (B.state self.old.backing) base history
+            → Standing L.state B.state self.old base history
             → into.new ≡ bytes_at (after base history) sector (length into.old / 512)) }
-        ensures stands { (base : Image) (history : List HistoryEntry) → Standing self.old (L.state self.old.log) (B.state self.old.backing) base history
-            → Standing self.new (L.state self.new.log) (B.state self.new.backing) base history }
-        ensures synced { IsSynced self.old (L.state self.old.log) (B.state self.old.backing) → IsSynced self.new (L.state self.new.log) (B.state self.new.backing) }
+        ensures stands { (base : Image) (history : List HistoryEntry) → Standing L.state B.state self.old base history
+            → Standing L.state B.state self.new base history }
+        ensures synced { IsSynced L.state B.state self.old → IsSynced L.state B.state self.new }
         ensures same { IsSameEngine self.old self.new }
         ensures log { OnlyRead (L.state self.old.log) (L.state self.new.log) }
         ensures backing { OnlyRead (B.state self.old.backing) (B.state self.new.backing) }
@@ -56,7 +56,7 @@ impl<L: Device, B: Device> Engine<L, B> {
         requires size { length into.old ≡ 512 }
         requires inside { sector < self.old.geometry.backing_sectors }
         ensures ok { OnOk result ((base image : Image) (history : List HistoryEntry) → Told (B.state self.old.backing) image
-            → Standing self.old (L.state self.old.log) (B.state self.old.backing) base history
+            → Standing L.state B.state self.old base history
             → into.new ≡ image_sector (after base history) sector) }
         ensures size { length into.new ≡ 512 }
         ensures room { self.old.geometry.backing_sectors ≤ (B.state self.old.backing).sectors }

@@ -6,7 +6,7 @@ ghost use Rattle.wb_log.specs.Kept.{IsThere, metas_at};
 ghost use Rattle.wb_engine.specs.Stepping.{MayLog, MaySync, MayBack, MayRecord, LogsNext, SyncsLog, WritesBack, PutsRecord, IsStep, IsPlanOf, IsFrontKept, IsRecordedGone};
 
 use crate::engine::Engine;
-use crate::memory::Memory;
+use wb_memory::Memory;
 use wb_back::{Plan, apply};
 use wb_device::{Device, DeviceFault};
 use wb_geometry::{Geometry, Spot, Which};
@@ -54,8 +54,8 @@ impl<L: Device, B: Device> Engine<L, B> {
     pub fn log_next(&mut self) -> Result<(), Which>
         requires up { self.old.down ≡ None }
         requires may { MayLog self.old.geometry self.old.numbers }
-        ensures step { IsStep self.old self.new (L.state self.old.log) (L.state self.new.log) (B.state self.old.backing) (B.state self.new.backing) }
-        ensures does { LogsNext self.old self.new (L.state self.old.log) (L.state self.new.log) result }
+        ensures step { IsStep L.state B.state self.old self.new }
+        ensures does { LogsNext L.state B.state self.old self.new result }
     {
         let segment = self.memory.front().unwrap();
         match write_segment(&mut self.log, &self.geometry, segment, &mut self.scratch) {
@@ -87,8 +87,8 @@ impl<L: Device, B: Device> Engine<L, B> {
     pub fn sync_log(&mut self) -> Result<(), Which>
         requires up { self.old.down ≡ None }
         requires may { MaySync self.old.numbers }
-        ensures step { IsStep self.old self.new (L.state self.old.log) (L.state self.new.log) (B.state self.old.backing) (B.state self.new.backing) }
-        ensures does { SyncsLog self.old self.new (L.state self.old.log) (L.state self.new.log) result }
+        ensures step { IsStep L.state B.state self.old self.new }
+        ensures does { SyncsLog L.state B.state self.old self.new result }
     {
         match self.log.sync() {
             Ok(()) => {
@@ -107,8 +107,8 @@ impl<L: Device, B: Device> Engine<L, B> {
     pub fn back_batch(&mut self) -> Result<(), Which>
         requires up { self.old.down ≡ None }
         requires may { MayBack self.old.numbers }
-        ensures step { IsStep self.old self.new (L.state self.old.log) (L.state self.new.log) (B.state self.old.backing) (B.state self.new.backing) }
-        ensures does { WritesBack self.old self.new (L.state self.old.log) (L.state self.new.log) (B.state self.old.backing) (B.state self.new.backing) result }
+        ensures step { IsStep L.state B.state self.old self.new }
+        ensures does { WritesBack L.state B.state self.old self.new result }
     {
         let next = self.numbers.back + 1;
         if plan_segment(
@@ -140,8 +140,8 @@ impl<L: Device, B: Device> Engine<L, B> {
     pub fn put_record(&mut self) -> Result<(), Which>
         requires up { self.old.down ≡ None }
         requires may { MayRecord self.old.numbers }
-        ensures step { IsStep self.old self.new (L.state self.old.log) (L.state self.new.log) (B.state self.old.backing) (B.state self.new.backing) }
-        ensures does { PutsRecord self.old self.new (L.state self.old.log) (L.state self.new.log) result }
+        ensures step { IsStep L.state B.state self.old self.new }
+        ensures does { PutsRecord L.state B.state self.old self.new result }
     {
         match write_record(&mut self.log, self.numbers.back) {
             Ok(()) => {

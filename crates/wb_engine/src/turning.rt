@@ -26,8 +26,8 @@ impl<L: Device, B: Device> Engine<L, B> {
     /// up. After an `Err`, which comes only where that device failed, it is down.
     pub fn turn(&mut self) -> Result<Turn, Which>
         requires { self.old.down ≡ None }
-        ensures step { IsStep self.old self.new (L.state self.old.log) (L.state self.new.log) (B.state self.old.backing) (B.state self.new.backing) }
-        ensures does { IsTurn self.old self.new (L.state self.old.log) (L.state self.new.log) (B.state self.old.backing) (B.state self.new.backing) result }
+        ensures step { IsStep L.state B.state self.old self.new }
+        ensures does { IsTurn L.state B.state self.old self.new result }
     {
         if self.can_log() {
             self.log_next()?;

@@ -9,7 +9,7 @@ mod state;
 mod writing;
 
 pub use reading::{read_block, read_sector};
-pub use state::LogState;
+pub use state::{LogState, vectors};
 pub use writing::{write_segment, write_text};
 
 #[cfg(test)]

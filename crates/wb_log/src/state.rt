@@ -117,8 +117,8 @@ impl LogState {
     }
 }
 
-/// So many empty vectors, each with room for the blocks of a segment.
-fn vectors(alloc: Global, count: usize, room: usize) -> Result<Vec<Vec<Meta>>, AllocError>
+/// So many empty vectors, each with room for so many elements: whoever takes them at the start needs no memory later.
+pub fn vectors<T: Drop>(alloc: Global, count: usize, room: usize) -> Result<Vec<Vec<T>>, AllocError>
     ensures count { IfOk result (λ vectors. length vectors.items ≡ count) }
     ensures rooms { IfOk result (λ vectors. All (λ vector. room ≤ vec_capacity vector) vectors.items) }
     ensures capacity { IfOk result (λ vectors. count ≤ vec_capacity vectors) }

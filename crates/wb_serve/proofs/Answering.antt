@@ -42,12 +42,12 @@ fewer Whole es stopped some = absurd (stopped refl)
 fewer (Down device) es stopped some = some
 fewer Ids es stopped some = some
 
-module _ {L B : Type 0} where
+module _ {L B : Type 0} {of_log : L → State} {of_backing : B → State} where
   -- It took the next place, or none.
-  pub answered_write : {log new_log backing new_backing : State} {e f : EngineContent L B} (client sector : ℕ) (pattern : List ℕ) (taken : Result ℕ Stop) → length pattern ≡ 1
-      → TakesPlace log new_log backing new_backing e f (entry_of client (part_in sector 1 (sector / 8)) (replicate 512 (get_or pattern 0 0))) taken
-      → IsAnswered client (Write sector 1 pattern false) log new_log backing new_backing e f (wrote taken)
-  answered_write {log} {new_log} {backing} {new_backing} {e} {f} client sector pattern (Ok place) one (next, left, moved, quiet) =
+  pub answered_write : {e f : EngineContent L B} (client sector : ℕ) (pattern : List ℕ) (taken : Result ℕ Stop) → length pattern ≡ 1
+      → TakesPlace of_log of_backing e f (entry_of client (part_in sector 1 (sector / 8)) (replicate 512 (get_or pattern 0 0))) taken
+      → IsAnswered of_log of_backing client (Write sector 1 pattern false) e f (wrote taken)
+  answered_write {e} {f} client sector pattern (Ok place) one (next, left, moved, quiet) =
       let entry : HistoryEntry = entry_of client (part_in sector 1 (sector / 8)) (replicate 512 (get_or pattern 0 0)) in
       let asks : asked client (Write sector 1 pattern false) ≡ entry ∷ [] = asked-one client sector 1 pattern false refl one in
       record {
@@ -63,7 +63,7 @@ module _ {L B : Type 0} where
         stopped_ids = λ is. absurd (cc);
         none_left = λ spent. absurd (left spent);
       }
-  answered_write {log} {new_log} {backing} {new_backing} {e} {f} client sector pattern (Err stop) one (stopped, moved, quiet) =
+  answered_write {e} {f} client sector pattern (Err stop) one (stopped, moved, quiet) =
       let asks = asked-one client sector 1 pattern false refl one in
       record {
         entries = [];
@@ -81,11 +81,11 @@ module _ {L B : Type 0} where
   -- ---- a read
 
   -- It shows what the history made of the image.
-  pub answered_read : {log new_log backing new_backing : State} {e f : EngineContent L B} (client sector point : ℕ) (shown : List ℕ) → HasMoved log new_log backing new_backing e f [] 0 0
+  pub answered_read : {e f : EngineContent L B} (client sector point : ℕ) (shown : List ℕ) → HasMoved of_log of_backing e f [] 0 0
       → point ≡ e.absorbed → length shown ≡ 512
-      → ((base image : Image) (history : List HistoryEntry) → Told backing image → Standing e log backing base history → shown ≡ bytes_at (after base history) sector 1)
-      → IsAnswered client (Read sector 1) log new_log backing new_backing e f (Got point shown)
-  answered_read {log} {new_log} {backing} {new_backing} {e} {f} client sector point shown moved here size shows = record {
+      → ((base image : Image) (history : List HistoryEntry) → Told (of_backing e.backing) image → Standing of_log of_backing e base history → shown ≡ bytes_at (after base history) sector 1)
+      → IsAnswered of_log of_backing client (Read sector 1) e f (Got point shown)
+  answered_read {e} {f} client sector point shown moved here size shows = record {
     entries = [];
     moved = moved;
     once = refl;
@@ -106,10 +106,10 @@ module _ {L B : Type 0} where
   }
 
   -- A device failed.
-  pub answered_failed : {log new_log backing new_backing : State} {e f : EngineContent L B} (client sector : ℕ) (device : Which)
-      → HasMoved log new_log backing new_backing e f [] (is_failure Log (Failed device)) (is_failure Backing (Failed device))
-      → IsAnswered client (Read sector 1) log new_log backing new_backing e f (Failed device)
-  answered_failed {log} {new_log} {backing} {new_backing} {e} {f} client sector device moved = record {
+  pub answered_failed : {e f : EngineContent L B} (client sector : ℕ) (device : Which)
+      → HasMoved of_log of_backing e f [] (is_failure Log (Failed device)) (is_failure Backing (Failed device))
+      → IsAnswered of_log of_backing client (Read sector 1) e f (Failed device)
+  answered_failed {e} {f} client sector device moved = record {
     entries = [];
     moved = moved;
     once = refl;
@@ -123,20 +123,20 @@ module _ {L B : Type 0} where
 
   -- ---- requests so far
 
-  over_told : {opened_log log opened_backing backing : State} {start e : EngineContent L B} {h : List HistoryEntry} {m n : ℕ} → HasCome opened_log log opened_backing backing start e h m n
-      → (first second : Option Image) → opened_log.content ≡ first → opened_backing.content ≡ second
-      → IfSome (told_with first second) (λ base. ((image : Image) × Told backing image) × Standing e log backing base h)
+  over_told : {start e : EngineContent L B} {h : List HistoryEntry} {m n : ℕ} → HasCome of_log of_backing start e h m n
+      → (first second : Option Image) → (of_log start.log).content ≡ first → (of_backing start.backing).content ≡ second
+      → IfSome (told_with first second) (λ base. ((image : Image) × Told (of_backing e.backing) image) × Standing of_log of_backing e base h)
   over_told come None second tells is = tt
   over_told come (Some x) None tells is = tt
-  over_told {opened_log} {log} {opened_backing} {backing} come (Some x) (Some y) tells is =
-      let some : IsSome opened_log.content = subst (λ (o : Option Image). IsSome o) (sym tells) refl in
+  over_told {start = start} come (Some x) (Some y) tells is =
+      let some : IsSome (of_log start.log).content = subst (λ (o : Option Image). IsSome o) (sym tells) refl in
       let to = (come.changed some).told y is in
-      ((to.0, to.1), come.stands y (told_base opened_backing y is) some)
+      ((to.0, to.1), come.stands y (told_base (of_backing start.backing) y is) some)
 
-  pub stands_over : {opened_log log opened_backing backing : State} {start e : EngineContent L B} {h : List HistoryEntry} {m n : ℕ} → HasCome opened_log log opened_backing backing start e h m n
-      → StandsOver (base_of opened_log opened_backing) log backing e h
-  stands_over {opened_log} {log} {opened_backing} come =
-      record { places = come.places; told = over_told come opened_log.content opened_backing.content refl refl }
+  pub stands_over : {start e : EngineContent L B} {h : List HistoryEntry} {m n : ℕ} → HasCome of_log of_backing start e h m n
+      → StandsOver of_log of_backing (base_of (of_log start.log) (of_backing start.backing)) e h
+  stands_over {start = start} come =
+      record { places = come.places; told = over_told come (of_log start.log).content (of_backing start.backing).content refl refl }
 
 -- ---- lines of a kind
 
@@ -208,9 +208,10 @@ module _ {L B : Type 0} where
   down_by_stop : {e : EngineContent L B} (device : Which) → IsStoppedDown e device → IsDownBy e device
   down_by_stop {e} device stopped = record { down = stopped.down; full = all_full e.geometry e.numbers e.absorbed stopped.full }
 
-  still_down_by : {log new_log backing new_backing : State} {e f : EngineContent L B} {es : List HistoryEntry} {m n : ℕ} (device : Which) → HasMoved log new_log backing new_backing e f es m n
+module _ {L B : Type 0} {of_log : L → State} {of_backing : B → State} where
+  still_down_by : {e f : EngineContent L B} {es : List HistoryEntry} {m n : ℕ} (device : Which) → HasMoved of_log of_backing e f es m n
       → IsDownBy e device → IsDownBy f device
-  still_down_by {log} {new_log} {backing} {new_backing} {e} {f} {es} device moved down = record {
+  still_down_by {e} {f} {es} device moved down = record {
     down = down_stays device moved.stays_down down.down;
     full =
         let longer : e.absorbed ≤ f.absorbed = omega (arith, moved.absorbed) in
@@ -218,8 +219,8 @@ module _ {L B : Type 0} where
         omega (arith, same, longer, down.full);
   }
 
-  still_spent : {log new_log backing new_backing : State} {e f : EngineContent L B} {es : List HistoryEntry} {m n : ℕ} → HasMoved log new_log backing new_backing e f es m n → es ≡ [] → AreSpent e → AreSpent f
-  still_spent {log} {new_log} {backing} {new_backing} {e} {f} {es} moved none spent =
+  still_spent : {e f : EngineContent L B} {es : List HistoryEntry} {m n : ℕ} → HasMoved of_log of_backing e f es m n → es ≡ [] → AreSpent e → AreSpent f
+  still_spent {e} {f} {es} moved none spent =
       let size : length es ≡ 0 = ap length none in
       let still : f.absorbed ≡ e.absorbed = omega (arith, size, moved.absorbed) in
       let P : Geometry × ℕ → Type 0 = λ t. e.absorbed ≡ places t.0 * (2 ^ 48 - t.1) in
@@ -227,22 +228,37 @@ module _ {L B : Type 0} where
       let same : (e.geometry, e.numbers.first) ≡ (f.geometry, f.numbers.first) = cc (moved.kept.geometry, moved.kept.first) in
       still ∙ subst P same was
 
-  pub play_push : {opened_log log new_log opened_backing backing new_backing : State} {start e f : EngineContent L B} {requests : List Request} {lines : List Line} {h : List HistoryEntry} {ids log_failed backing_failed : Bool} (client : ℕ) (request : Request) (line : Line)
-      → IsPlayed client requests opened_log log opened_backing backing start e lines h ids log_failed backing_failed → (answered : IsAnswered client request log new_log backing new_backing e f line)
-      → IsPlayed client (requests ++ request ∷ []) opened_log new_log opened_backing new_backing start f (lines ++ line ∷ []) (h ++ answered.entries)
-      (ids || is_stopped_line line) (log_failed || (is_failure Log line == 1)) (backing_failed || (is_failure Backing line == 1))
-  play_push {opened_log} {log} {new_log} {opened_backing} {backing} {new_backing} {start} {e} {f} {requests} {lines} {h} {ids} {log_failed} {backing_failed} client request line p answered =
+-- no request was answered
+abbrev pub nothing_played : Played
+nothing_played = record { transcript = []; ids = false; log_failed = false; backing_failed = false }
+
+-- the answers with one more line
+abbrev pub with_line : Played → Line → Played
+with_line played line = record {
+  transcript = played.transcript ++ line ∷ [];
+  ids = played.ids || is_stopped_line line;
+  log_failed = played.log_failed || (is_failure Log line == 1);
+  backing_failed = played.backing_failed || (is_failure Backing line == 1);
+}
+
+module _ {L B : Type 0} {of_log : L → State} {of_backing : B → State} where
+  pub play_push : {start e f : EngineContent L B} {requests : List Request} {played : Played} {h : List HistoryEntry} (client : ℕ) (request : Request) (line : Line)
+      → IsPlayed of_log of_backing client requests start e played h → (answered : IsAnswered of_log of_backing client request e f line)
+      → IsPlayed of_log of_backing client (requests ++ request ∷ []) start f (with_line played line) (h ++ answered.entries)
+  play_push {start} {e} {f} {requests} {played} {h} client request line p answered =
+      let lines : List Line = played.transcript in
+      let ids : Bool = played.ids in
       let es : List HistoryEntry = answered.entries in
       let over = stands_over p.come in
-      let content : Option Image = base_of opened_log opened_backing in
+      let content : Option Image = base_of (of_log start.log) (of_backing start.backing) in
       let same_length : length lines ≡ length requests = length-answers content h client nothing_seen requests lines p.answers in
       let seen : Seen = seen_after_all nothing_seen requests lines in
       let low : seen.number ≤ e.absorbed = omega (arith, p.sees, over.places) in
       let count : (which : Which) → failures which (lines ++ line ∷ []) ≡ failures which lines + is_failure which line = λ which. failures_push which lines line in
       record {
         come =
-            subst (λ (k : ℕ). HasCome opened_log new_log opened_backing new_backing start f (h ++ es) k (failures Backing (lines ++ line ∷ []))) (sym (count Log))
-            (subst (λ (k : ℕ). HasCome opened_log new_log opened_backing new_backing start f (h ++ es) (failures Log lines + is_failure Log line) k) (sym (count Backing)) (come_more p.come answered.moved));
+            subst (λ (k : ℕ). HasCome of_log of_backing start f (h ++ es) k (failures Backing (lines ++ line ∷ []))) (sym (count Log))
+            (subst (λ (k : ℕ). HasCome of_log of_backing start f (h ++ es) (failures Log lines + is_failure Log line) k) (sym (count Backing)) (come_more p.come answered.moved));
         once =
             printed_push client requests lines request line same_length
             ∙ ap (λ (ps : List (ℕ × HistoryEntry)). ps ++ printed_line client request line) p.once
@@ -254,10 +270,10 @@ module _ {L B : Type 0} where
             (answered.answers content h over seen low);
         sees = subst (λ (s : Seen). s.number ≤ length (h ++ es)) (sym (seen_push nothing_seen requests lines request line same_length))
             (let sees = answered.sees seen low in omega (arith, sees, over.places, length-append h es));
-        log_fails = λ failed. subst (λ (k : ℕ). 1 ≤ k) (sym (count Log)) (count_rose log_failed (failures Log lines) (is_failure Log line) p.log_fails failed);
-        log_fine = λ fine. count Log ∙ count_kept log_failed (failures Log lines) (is_failure Log line) (failure_few Log line) p.log_fine fine;
-        backing_fails = λ failed. subst (λ (k : ℕ). 1 ≤ k) (sym (count Backing)) (count_rose backing_failed (failures Backing lines) (is_failure Backing line) p.backing_fails failed);
-        backing_fine = λ fine. count Backing ∙ count_kept backing_failed (failures Backing lines) (is_failure Backing line) (failure_few Backing line) p.backing_fine fine;
+        log_fails = λ failed. subst (λ (k : ℕ). 1 ≤ k) (sym (count Log)) (count_rose played.log_failed (failures Log lines) (is_failure Log line) p.log_fails failed);
+        log_fine = λ fine. count Log ∙ count_kept played.log_failed (failures Log lines) (is_failure Log line) (failure_few Log line) p.log_fine fine;
+        backing_fails = λ failed. subst (λ (k : ℕ). 1 ≤ k) (sym (count Backing)) (count_rose played.backing_failed (failures Backing lines) (is_failure Backing line) p.backing_fails failed);
+        backing_fine = λ fine. count Backing ∙ count_kept played.backing_failed (failures Backing lines) (is_failure Backing line) (failure_few Backing line) p.backing_fine fine;
         stopped_down = λ device some. elim (any-push_cases (HasStop (Down device)) lines line some) [
           | inl before ↦ still_down_by device answered.moved (p.stopped_down device before)
           | inr last ↦ down_by_stop device (answered.stopped_down device last)
@@ -272,42 +288,42 @@ module _ {L B : Type 0} where
       }
 
   -- the same in a loop
-  pub play_more : {opened_log log new_log opened_backing backing new_backing : State} {start e f : EngineContent L B} {lines now_lines : List Line} {h : List HistoryEntry} {ids log_failed backing_failed : Bool} (client : ℕ) (requests : List Request) (i : ℕ) (request : Request) (line : Line)
-      → i < length requests → request ≡ get_or requests i request → IsPlayed client (take i requests) opened_log log opened_backing backing start e lines h ids log_failed backing_failed
-      → (answered : IsAnswered client request log new_log backing new_backing e f line) → now_lines ≡ lines ++ line ∷ []
-      → IsPlayed client (take (i + 1) requests) opened_log new_log opened_backing new_backing start f now_lines (h ++ answered.entries)
-      (ids || is_stopped_line line) (log_failed || (is_failure Log line == 1)) (backing_failed || (is_failure Backing line == 1))
-  play_more {opened_log} {log} {new_log} {opened_backing} {backing} {new_backing} {start} {e} {f} {lines} {now_lines} {h} client requests i request line lt is played answered grown =
+  pub play_more : {start e f : EngineContent L B} {played : Played} {h : List HistoryEntry} {transcript : List Line} (client : ℕ) (requests : List Request) (i : ℕ) (request : Request) (line : Line)
+      → i < length requests → request ≡ get_or requests i request → IsPlayed of_log of_backing client (take i requests) start e played h
+      → (answered : IsAnswered of_log of_backing client request e f line) → transcript ≡ played.transcript ++ line ∷ []
+      → IsPlayed of_log of_backing client (take (i + 1) requests) start f (record (with_line played line) { transcript = transcript }) (h ++ answered.entries)
+  play_more {played = played} client requests i request line lt is p answered grown =
       let next : take (i + 1) requests ≡ take i requests ++ request ∷ [] = take_more requests i request lt ∙ ap (λ (r : Request). take i requests ++ r ∷ []) (sym is) in
-      let full = play_push client request line played answered in
+      let full = play_push client request line p answered in
       rw (next, grown) full
 
   -- where the engine went on without an answer
-  pub play_on : {opened_log log new_log opened_backing backing new_backing : State} {start e f : EngineContent L B} {requests : List Request} {lines : List Line} {h : List HistoryEntry} {ids log_failed backing_failed : Bool} (client : ℕ)
-      → IsPlayed client requests opened_log log opened_backing backing start e lines h ids log_failed backing_failed → HasMoved log new_log backing new_backing e f [] 0 0
-      → IsPlayed client requests opened_log new_log opened_backing new_backing start f lines h ids log_failed backing_failed
-  play_on {opened_log} {log} {new_log} {opened_backing} {backing} {new_backing} {start} {e} {f} {requests} {lines} {h} client p moved = record {
-    come =
-        let same : (h ++ [], failures Log lines + 0, failures Backing lines + 0) ≡ (h, failures Log lines, failures Backing lines) = cc (append-nil h, add-zero (failures Log lines), add-zero (failures Backing lines)) in
-        let P : List HistoryEntry × ℕ × ℕ → Type 0 = λ t. HasCome opened_log new_log opened_backing new_backing start f t.0 t.1 t.2 in
-        let more : P (h ++ [], failures Log lines + 0, failures Backing lines + 0) = come_more p.come moved in
-        subst P same more;
-    once = p.once;
-    own = p.own;
-    answers = p.answers;
-    sees = p.sees;
-    log_fails = p.log_fails;
-    log_fine = p.log_fine;
-    backing_fails = p.backing_fails;
-    backing_fine = p.backing_fine;
-    stopped_down = λ device some. still_down_by device moved (p.stopped_down device some);
-    stopped_ids = λ some. let spent = p.stopped_ids some in (spent.0, still_spent moved refl spent.1);
-    ids_told = p.ids_told;
-  }
+  pub play_on : {start e f : EngineContent L B} {requests : List Request} {played : Played} {h : List HistoryEntry} (client : ℕ)
+      → IsPlayed of_log of_backing client requests start e played h → HasMoved of_log of_backing e f [] 0 0 → IsPlayed of_log of_backing client requests start f played h
+  play_on {start} {e} {f} {requests} {played} {h} client p moved =
+      let lines : List Line = played.transcript in
+      record {
+        come =
+            let same : (h ++ [], failures Log lines + 0, failures Backing lines + 0) ≡ (h, failures Log lines, failures Backing lines) = cc (append-nil h, add-zero (failures Log lines), add-zero (failures Backing lines)) in
+            let P : List HistoryEntry × ℕ × ℕ → Type 0 = λ t. HasCome of_log of_backing start f t.0 t.1 t.2 in
+            let more : P (h ++ [], failures Log lines + 0, failures Backing lines + 0) = come_more p.come moved in
+            subst P same more;
+        once = p.once;
+        own = p.own;
+        answers = p.answers;
+        sees = p.sees;
+        log_fails = p.log_fails;
+        log_fine = p.log_fine;
+        backing_fails = p.backing_fails;
+        backing_fine = p.backing_fine;
+        stopped_down = λ device some. still_down_by device moved (p.stopped_down device some);
+        stopped_ids = λ some. let spent = p.stopped_ids some in (spent.0, still_spent moved refl spent.1);
+        ids_told = p.ids_told;
+      }
 
   -- none was played
-  pub play_none : {log backing : State} {e : EngineContent L B} (client : ℕ) → HasCome log log backing backing e e [] 0 0 → IsPlayed client [] log log backing backing e e [] [] false false false
-  play_none {log} {backing} {e} client come = record {
+  pub play_none : {e : EngineContent L B} (client : ℕ) → HasCome of_log of_backing e e [] 0 0 → IsPlayed of_log of_backing client [] e e nothing_played []
+  play_none {e} client come = record {
     come = come;
     once = refl;
     own = All-nil (λ entry. client_of entry ≡ client);
@@ -323,19 +339,15 @@ module _ {L B : Type 0} where
   }
 
   -- all of them, or some
-  pub played_in_part : {E : Type 0} {opened_log log opened_backing backing : State} {start e : EngineContent L B} (client : ℕ) (requests : List Request) (result : Result Played E)
-      → IfOk result (λ played. (history : List HistoryEntry) × IsPlayed client requests opened_log log opened_backing backing start e played.transcript history played.ids played.log_failed played.backing_failed)
-      → IfErr result (λ none. IsPlayedInPart client requests opened_log log opened_backing backing start e)
-      → IsPlayedInPart client requests opened_log log opened_backing backing start e
-  played_in_part {E} {opened_log} {log} {opened_backing} {backing} {start} {e} client requests (Ok played) all some = record {
+  pub played_in_part : {E : Type 0} {start e : EngineContent L B} (client : ℕ) (requests : List Request) (result : Result Played E)
+      → IfOk result (λ played. (history : List HistoryEntry) × IsPlayed of_log of_backing client requests start e played history)
+      → IfErr result (λ none. IsPlayedInPart of_log of_backing client requests start e) → IsPlayedInPart of_log of_backing client requests start e
+  played_in_part {start = start} {e = e} client requests (Ok played) all some = record {
     count = length requests;
-    lines = played.transcript;
+    played = played;
     history = all.0;
-    ids = played.ids;
-    log_failed = played.log_failed;
-    backing_failed = played.backing_failed;
-    played =
-        subst (λ (asked : List Request). IsPlayed client asked opened_log log opened_backing backing start e played.transcript all.0 played.ids played.log_failed played.backing_failed)
+    is =
+        subst (λ (asked : List Request). IsPlayed of_log of_backing client asked start e played all.0)
         (sym (take_all (length requests) requests (omega arith))) all.1;
   }
   played_in_part client requests (Err none) all some = some

@@ -37,56 +37,58 @@ module _ {L B : Type 0} where
       let same : (e.geometry, e.numbers.first, e.absorbed) ≡ (found.geometry, found.recorded, taken) = cc (cache.geometry, cache.first, cache.absorbed) in
       subst P same holds
 
-  -- what closing an engine left of both devices; this one failed, if one did
-  pub record Closes (fault : Option Which) (log log_end backing backing_end : State) (e : EngineContent L B) : Type 0 where
-    pub content : fault ≡ None → (base : Image) (history : List HistoryEntry) → Standing e log backing base history → (image : Image) → Told backing_end image → image ≡ after base history
-    pub empty : fault ≡ None → (base : Image) (history : List HistoryEntry) → Standing e log backing base history → (image : Image) → Told log_end image
-        → IsChain e.geometry image [] × (record_of image ≡ last_id e)
-    pub crash : (base : Image) (history : List HistoryEntry) → Standing e log backing base history → CrashNow e.geometry (line e base history) e.numbers.stable (last_id e) log_end backing_end
-    pub changed : (base : Image) (history : List HistoryEntry) → Standing e log backing base history → ContentPasses (PutsPartly history) backing backing_end
-    pub durable : fault ≡ None → IsSynced e log backing → NothingPending log_end × NothingPending backing_end
-    pub log_faults : FaultsEnd Log fault e.down log.faults log_end.faults
-    pub backing_faults : FaultsEnd Backing fault e.down backing.faults backing_end.faults
+-- what closing an engine left of both devices; this one failed, if one did
+pub record Closes {L B : Type 0} (of_log : L → State) (of_backing : B → State) (fault : Option Which) (log_end backing_end : State) (e : EngineContent L B) : Type 0 where
+  pub content : fault ≡ None → (base : Image) (history : List HistoryEntry) → Standing of_log of_backing e base history → (image : Image) → Told backing_end image → image ≡ after base history
+  pub empty : fault ≡ None → (base : Image) (history : List HistoryEntry) → Standing of_log of_backing e base history → (image : Image) → Told log_end image
+      → IsChain e.geometry image [] × (record_of image ≡ last_id e)
+  pub crash : (base : Image) (history : List HistoryEntry) → Standing of_log of_backing e base history
+      → CrashNow e.geometry (line e base history) e.numbers.stable (last_id e) log_end backing_end
+  pub changed : (base : Image) (history : List HistoryEntry) → Standing of_log of_backing e base history → ContentPasses (PutsPartly history) (of_backing e.backing) backing_end
+  pub durable : fault ≡ None → IsSynced of_log of_backing e → NothingPending log_end × NothingPending backing_end
+  pub log_faults : FaultsEnd Log fault e.down (of_log e.log).faults log_end.faults
+  pub backing_faults : FaultsEnd Backing fault e.down (of_backing e.backing).faults backing_end.faults
 
-  module _ {fault : Option Which} {opened_log log log_end opened_backing backing backing_end : State} {start e : EngineContent L B} {h : List HistoryEntry} {log_fails backing_fails : ℕ} where
-    pub end_changed : HasCome opened_log log opened_backing backing start e h log_fails backing_fails → Closes fault log log_end backing backing_end e
-        → IsSome opened_log.content → ContentPasses (PutsPartly h) opened_backing backing_end
-    end_changed come closes some =
-        let base = a_base opened_backing in
-        content_joined (λ x y z told first second. puts_then h h x y z (All-contains_itself h) first second) (come.changed some) (closes.changed base.0 h (come.stands base.0 base.1 some))
+module _ {L B : Type 0} {of_log : L → State} {of_backing : B → State} {fault : Option Which} {log_end backing_end : State} {start e : EngineContent L B} {h : List HistoryEntry}
+    {log_fails backing_fails : ℕ} where
+  pub end_changed : HasCome of_log of_backing start e h log_fails backing_fails → Closes of_log of_backing fault log_end backing_end e
+      → IsSome (of_log start.log).content → ContentPasses (PutsPartly h) (of_backing start.backing) backing_end
+  end_changed come closes some =
+      let base = a_base (of_backing start.backing) in
+      content_joined (λ x y z told first second. puts_then h h x y z (All-contains_itself h) first second) (come.changed some) (closes.changed base.0 h (come.stands base.0 base.1 some))
 
-    -- the whole history is put where nothing failed
-    pub end_content : HasCome opened_log log opened_backing backing start e h log_fails backing_fails → Closes fault log log_end backing backing_end e
-        → IsSome opened_log.content → fault ≡ None → ContentPasses (λ base image. image ≡ after base h) opened_backing backing_end
-    end_content come closes some none =
-        let changed = end_changed come closes some in
-        record {
-          told = λ x is.
-              let to = changed.told x is in
-              (to.0, to.1, closes.content none x h (come.stands x (told_base opened_backing x is) some) to.0 to.1);
-          from = λ y is.
-              let by = changed.from y is in
-              (by.0, by.1, closes.content none by.0 h (come.stands by.0 (told_base opened_backing by.0 by.1) some) y is);
-        }
+  -- the whole history is put where nothing failed
+  pub end_content : HasCome of_log of_backing start e h log_fails backing_fails → Closes of_log of_backing fault log_end backing_end e
+      → IsSome (of_log start.log).content → fault ≡ None → ContentPasses (λ base image. image ≡ after base h) (of_backing start.backing) backing_end
+  end_content come closes some none =
+      let changed = end_changed come closes some in
+      record {
+        told = λ x is.
+            let to = changed.told x is in
+            (to.0, to.1, closes.content none x h (come.stands x (told_base (of_backing start.backing) x is) some) to.0 to.1);
+        from = λ y is.
+            let by = changed.from y is in
+            (by.0, by.1, closes.content none by.0 h (come.stands by.0 (told_base (of_backing start.backing) by.0 by.1) some) y is);
+      }
 
-    -- and recorded, so that the log has nothing for recovery
-    pub end_empty : (found : Super) (taken : ℕ) → IsCacheOf found taken e
-        → HasCome opened_log log opened_backing backing start e h log_fails backing_fails → Closes fault log log_end backing backing_end e
-        → IsSome opened_log.content → fault ≡ None → (x : Image) → log_end.content ≡ Some x → IsChain found.geometry x [] × (record_of x ≡ last_segment found taken)
-    end_empty found taken cache come closes some none x told =
-        let base = a_base opened_backing in
-        let P : Geometry × ℕ × ℕ → Type 0 = λ t. IsChain t.0 x [] × (record_of x ≡ t.1 + (t.2 + places t.0 - 1) / places t.0) in
-        let was : P (e.geometry, e.numbers.first, e.absorbed) = closes.empty none base.0 h (come.stands base.0 base.1 some) x told in
-        told_of P found taken e cache was
+  -- and recorded, so that the log has nothing for recovery
+  pub end_empty : (found : Super) (taken : ℕ) → IsCacheOf found taken e
+      → HasCome of_log of_backing start e h log_fails backing_fails → Closes of_log of_backing fault log_end backing_end e
+      → IsSome (of_log start.log).content → fault ≡ None → (x : Image) → log_end.content ≡ Some x → IsChain found.geometry x [] × (record_of x ≡ last_segment found taken)
+  end_empty found taken cache come closes some none x told =
+      let base = a_base (of_backing start.backing) in
+      let P : Geometry × ℕ × ℕ → Type 0 = λ t. IsChain t.0 x [] × (record_of x ≡ t.1 + (t.2 + places t.0 - 1) / places t.0) in
+      let was : P (e.geometry, e.numbers.first, e.absorbed) = closes.empty none base.0 h (come.stands base.0 base.1 some) x told in
+      told_of P found taken e cache was
 
-    -- what a crash then leaves, from the record at the start to the last segment
-    pub end_crash : (found : Super) (taken : ℕ) (base : Image) → IsCacheOf found taken e
-        → HasCome opened_log log opened_backing backing start e h log_fails backing_fails → Closes fault log log_end backing backing_end e
-        → IsSome opened_log.content → opened_backing.content ≡ Some base
-        → CrashNow found.geometry (line_of (places found.geometry) found.recorded base h) found.recorded (last_segment found taken) log_end backing_end
-    end_crash found taken base cache come closes some told =
-        let stands = come.stands base (told_base opened_backing base told) some in
-        let ordered = stands.safe.ordered in
-        let P : Geometry × ℕ × ℕ → Type 0 = λ t. CrashNow t.0 (line_of (places t.0) t.1 base h) t.1 (t.1 + (t.2 + places t.0 - 1) / places t.0) log_end backing_end in
-        let was : P (e.geometry, e.numbers.first, e.absorbed) = crash_around e.numbers.first (last_id e) (omega (arith, ordered.start, ordered.recorded, ordered.back)) (omega arith) (closes.crash base h stands) in
-        told_of P found taken e cache was
+  -- what a crash then leaves, from the record at the start to the last segment
+  pub end_crash : (found : Super) (taken : ℕ) (base : Image) → IsCacheOf found taken e
+      → HasCome of_log of_backing start e h log_fails backing_fails → Closes of_log of_backing fault log_end backing_end e
+      → IsSome (of_log start.log).content → (of_backing start.backing).content ≡ Some base
+      → CrashNow found.geometry (line_of (places found.geometry) found.recorded base h) found.recorded (last_segment found taken) log_end backing_end
+  end_crash found taken base cache come closes some told =
+      let stands = come.stands base (told_base (of_backing start.backing) base told) some in
+      let ordered = stands.safe.ordered in
+      let P : Geometry × ℕ × ℕ → Type 0 = λ t. CrashNow t.0 (line_of (places t.0) t.1 base h) t.1 (t.1 + (t.2 + places t.0 - 1) / places t.0) log_end backing_end in
+      let was : P (e.geometry, e.numbers.first, e.absorbed) = crash_around e.numbers.first (last_id e) (omega (arith, ordered.start, ordered.recorded, ordered.back)) (omega arith) (closes.crash base h stands) in
+      told_of P found taken e cache was

@@ -125,16 +125,17 @@ module _ {L B : Type 0} where
   same_cache_trans : {e f g : EngineContent L B} → IsSameCache e f → IsSameCache f g → IsSameCache e g
   same_cache_trans first second = record { geometry = second.geometry ∙ first.geometry; first = second.first ∙ first.first }
 
+module _ {L B : Type 0} {of_log : L → State} {of_backing : B → State} where
   -- ---- one step after others
 
-  pub moved_then : {log mid_log new_log backing mid_backing new_backing : State} {e f g : EngineContent L B} {xs ys : List HistoryEntry} {k l m n : ℕ}
-      → HasMoved log mid_log backing mid_backing e f xs k m → HasMoved mid_log new_log mid_backing new_backing f g ys l n
-      → HasMoved log new_log backing new_backing e g (xs ++ ys) (k + l) (m + n)
-  moved_then {log} {mid_log} {new_log} {backing} {mid_backing} {new_backing} {e} {f} {g} {xs} {ys} first second = record {
+  pub moved_then : {e f g : EngineContent L B} {xs ys : List HistoryEntry} {k l m n : ℕ}
+      → HasMoved of_log of_backing e f xs k m → HasMoved of_log of_backing f g ys l n
+      → HasMoved of_log of_backing e g (xs ++ ys) (k + l) (m + n)
+  moved_then {e} {f} {g} {xs} {ys} first second = record {
     stands = λ base h is.
-        subst (λ (es : List HistoryEntry). Standing g new_log new_backing base es) (append_assoc h xs ys) (second.stands base (h ++ xs) (first.stands base h is));
+        subst (λ (es : List HistoryEntry). Standing of_log of_backing g base es) (append_assoc h xs ys) (second.stands base (h ++ xs) (first.stands base h is));
     changed = λ base h is.
-        subst (λ (es : List HistoryEntry). ContentPasses (PutsPartly es) backing new_backing) (append_assoc h xs ys)
+        subst (λ (es : List HistoryEntry). ContentPasses (PutsPartly es) (of_backing e.backing) (of_backing g.backing)) (append_assoc h xs ys)
         (content_joined (λ x y z told one two. puts_on (h ++ xs) ys x y z one two) (first.changed base h is) (second.changed base (h ++ xs) (first.stands base h is)));
     synced = λ is. second.synced (first.synced is);
     same_log = same_device_trans first.same_log second.same_log;
@@ -146,14 +147,14 @@ module _ {L B : Type 0} where
     stays_down = stays e.down f.down g.down first.stays_down second.stays_down;
   }
 
-  pub come_more : {opened_log log new_log opened_backing backing new_backing : State} {start e f : EngineContent L B} {h xs : List HistoryEntry} {k l m n : ℕ}
-      → HasCome opened_log log opened_backing backing start e h k m → HasMoved log new_log backing new_backing e f xs l n
-      → HasCome opened_log new_log opened_backing new_backing start f (h ++ xs) (k + l) (m + n)
-  come_more {opened_log} {log} {new_log} {opened_backing} {backing} {new_backing} {start} {e} {f} {h} {xs} come moved = record {
+  pub come_more : {start e f : EngineContent L B} {h xs : List HistoryEntry} {k l m n : ℕ}
+      → HasCome of_log of_backing start e h k m → HasMoved of_log of_backing e f xs l n
+      → HasCome of_log of_backing start f (h ++ xs) (k + l) (m + n)
+  come_more {start} {e} {f} {h} {xs} come moved = record {
     places = omega (arith, come.places, moved.absorbed, length-append h xs);
     stands = λ base only tells. moved.stands base h (come.stands base only tells);
     changed = λ tells.
-        let base = a_base opened_backing in
+        let base = a_base (of_backing start.backing) in
         content_joined (λ x y z told one two. puts_on h xs x y z one two) (come.changed tells) (moved.changed base.0 h (come.stands base.0 base.1 tells));
     synced = moved.synced come.synced;
     same_log = same_device_trans come.same_log moved.same_log;
@@ -166,13 +167,13 @@ module _ {L B : Type 0} where
   -- ---- the steps
 
   -- none
-  pub moved_none : (e : EngineContent L B) (log backing : State) → HasMoved log log backing backing e e [] 0 0
-  moved_none e log backing = record {
-    stands = λ base h is. subst (λ (es : List HistoryEntry). Standing e log backing base es) (sym (append-nil h)) is;
+  pub moved_none : (e : EngineContent L B) → HasMoved of_log of_backing e e [] 0 0
+  moved_none e = record {
+    stands = λ base h is. subst (λ (es : List HistoryEntry). Standing of_log of_backing e base es) (sym (append-nil h)) is;
     changed = λ base h is. content_same (λ x told. puts_none (h ++ []) x) refl;
     synced = λ is. is;
-    same_log = same_device log;
-    same_backing = same_device backing;
+    same_log = same_device (of_log e.log);
+    same_backing = same_device (of_backing e.backing);
     kept = record { geometry = refl; first = refl };
     absorbed = omega arith;
     log_faults = faults_none refl refl;
@@ -181,12 +182,12 @@ module _ {L B : Type 0} where
   }
 
   -- a turn
-  pub moved_turn : {log new_log backing new_backing : State} {e f : EngineContent L B} → e.down ≡ None → Moves e f log new_log backing new_backing
-      → CountsFaultsWhere (f.down ≡ Some Log) log.faults new_log.faults → CountsFaultsWhere (f.down ≡ Some Backing) backing.faults new_backing.faults
-      → HasMoved log new_log backing new_backing e f [] 0 0
-  moved_turn {log} {new_log} {backing} {new_backing} {e} {f} up moves log_faults backing_faults = record {
-    stands = λ base h is. subst (λ (es : List HistoryEntry). Standing f new_log new_backing base es) (sym (append-nil h)) (moves.stands base h is);
-    changed = λ base h is. subst (λ (es : List HistoryEntry). ContentPasses (PutsPartly es) backing new_backing) (sym (append-nil h)) (moves.changed base h is);
+  pub moved_turn : {e f : EngineContent L B} → e.down ≡ None → Moves of_log of_backing e f
+      → CountsFaultsWhere (f.down ≡ Some Log) (of_log e.log).faults (of_log f.log).faults → CountsFaultsWhere (f.down ≡ Some Backing) (of_backing e.backing).faults (of_backing f.backing).faults
+      → HasMoved of_log of_backing e f [] 0 0
+  moved_turn {e} {f} up moves log_faults backing_faults = record {
+    stands = λ base h is. subst (λ (es : List HistoryEntry). Standing of_log of_backing f base es) (sym (append-nil h)) (moves.stands base h is);
+    changed = λ base h is. subst (λ (es : List HistoryEntry). ContentPasses (PutsPartly es) (of_backing e.backing) (of_backing f.backing)) (sym (append-nil h)) (moves.changed base h is);
     synced = moves.synced;
     same_log = moves.same_log;
     same_backing = moves.same_backing;
@@ -198,31 +199,32 @@ module _ {L B : Type 0} where
   }
 
   -- an entry that comes, for which neither device is called
-  pub moved_entry : {log new_log backing new_backing : State} {e f : EngineContent L B} (entry : HistoryEntry)
-      → ((base : Image) (history : List HistoryEntry) → Standing e log backing base history → Standing f new_log new_backing base (history ++ entry ∷ []))
-      → (IsSynced e log backing → IsSynced f new_log new_backing) → new_log ≡ log → new_backing ≡ backing → IsSameCache e f → f.absorbed ≡ e.absorbed + 1 → f.down ≡ e.down
-      → HasMoved log new_log backing new_backing e f (entry ∷ []) 0 0
-  moved_entry {log} {new_log} {backing} {new_backing} {e} {f} entry stands synced same_log same_backing kept absorbed down = record {
+  pub moved_entry : {e f : EngineContent L B} (entry : HistoryEntry)
+      → ((base : Image) (history : List HistoryEntry) → Standing of_log of_backing e base history → Standing of_log of_backing f base (history ++ entry ∷ []))
+      → (IsSynced of_log of_backing e → IsSynced of_log of_backing f) → f.log ≡ e.log → f.backing ≡ e.backing → IsSameCache e f → f.absorbed ≡ e.absorbed + 1 → f.down ≡ e.down
+      → HasMoved of_log of_backing e f (entry ∷ []) 0 0
+  moved_entry {e} {f} entry stands synced same_log same_backing kept absorbed down = record {
     stands = stands;
-    changed = λ base h is. content_same (λ x told. puts_none (h ++ entry ∷ []) x) (ap (λ (s : State). s.content) same_backing);
+    changed = λ base h is. content_same (λ x told. puts_none (h ++ entry ∷ []) x) (ap (λ (b : B). (of_backing b).content) same_backing);
     synced = synced;
-    same_log = subst (λ (s : State). IsSameDevice log s) (sym same_log) (same_device log);
-    same_backing = subst (λ (s : State). IsSameDevice backing s) (sym same_backing) (same_device backing);
+    same_log = subst (λ (l : L). IsSameDevice (of_log e.log) (of_log l)) (sym same_log) (same_device (of_log e.log));
+    same_backing = subst (λ (b : B). IsSameDevice (of_backing e.backing) (of_backing b)) (sym same_backing) (same_device (of_backing e.backing));
     kept = kept;
     absorbed = omega (arith, absorbed);
-    log_faults = faults_none down (ap (λ (s : State). s.faults) same_log);
-    backing_faults = faults_none down (ap (λ (s : State). s.faults) same_backing);
+    log_faults = faults_none down (ap (λ (l : L). (of_log l).faults) same_log);
+    backing_faults = faults_none down (ap (λ (b : B). (of_backing b).faults) same_backing);
     stays_down = still_down e.down f.down down;
   }
 
   -- a read, which may have failed
-  pub moved_read : {log new_log backing new_backing : State} {e f : EngineContent L B} {log_fails backing_fails : ℕ}
-      → ((base : Image) (history : List HistoryEntry) → Standing e log backing base history → Standing f new_log new_backing base history)
-      → (IsSynced e log backing → IsSynced f new_log new_backing) → IsSameEngine e f → OnlyRead log new_log → OnlyRead backing new_backing
-      → FaultsWent Log log_fails e.down f.down log.faults new_log.faults → FaultsWent Backing backing_fails e.down f.down backing.faults new_backing.faults
-      → HasMoved log new_log backing new_backing e f [] log_fails backing_fails
-  moved_read {log} {new_log} {backing} {new_backing} {e} {f} stands synced same log_read backing_read log_faults backing_faults = record {
-    stands = λ base h is. subst (λ (es : List HistoryEntry). Standing f new_log new_backing base es) (sym (append-nil h)) (stands base h is);
+  pub moved_read : {e f : EngineContent L B} {log_fails backing_fails : ℕ}
+      → ((base : Image) (history : List HistoryEntry) → Standing of_log of_backing e base history → Standing of_log of_backing f base history)
+      → (IsSynced of_log of_backing e → IsSynced of_log of_backing f) → IsSameEngine e f → OnlyRead (of_log e.log) (of_log f.log) → OnlyRead (of_backing e.backing) (of_backing f.backing)
+      → FaultsWent Log log_fails e.down f.down (of_log e.log).faults (of_log f.log).faults
+      → FaultsWent Backing backing_fails e.down f.down (of_backing e.backing).faults (of_backing f.backing).faults
+      → HasMoved of_log of_backing e f [] log_fails backing_fails
+  moved_read {e} {f} stands synced same log_read backing_read log_faults backing_faults = record {
+    stands = λ base h is. subst (λ (es : List HistoryEntry). Standing of_log of_backing f base es) (sym (append-nil h)) (stands base h is);
     changed = λ base h is. content_same (λ x told. puts_none (h ++ []) x) backing_read.content;
     synced = synced;
     same_log = log_read.same;

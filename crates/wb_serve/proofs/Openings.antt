@@ -22,51 +22,51 @@ no_faults device {down} n up = record {
   goes_down = λ was is. absurd (let both : None ≡ Some device = sym up ∙ is in cc);
 }
 
-module _ {L B : Type 0} where
-  -- what opening it left of both devices
-  pub record Opens (log opened_log backing opened_backing : State) (start : EngineContent L B) : Type 0 where
-    pub fresh : IsOpened log start
-    pub room : start.geometry.backing_sectors ≤ opened_backing.sectors
-    pub stands : (base : Image) → IsOnly base (Told backing) → IsSome log.content → Standing start opened_log opened_backing base []
-    pub synced : IsSynced start opened_log opened_backing
-    pub log_synced : IsOnlySynced log opened_log
-    pub backing_synced : IsOnlySynced backing opened_backing
-    pub log_faults : opened_log.faults ≡ log.faults
-    pub backing_faults : opened_backing.faults ≡ backing.faults
+-- what opening it left of both devices
+pub record Opens {L B : Type 0} (of_log : L → State) (of_backing : B → State) (log backing : State) (start : EngineContent L B) : Type 0 where
+  pub fresh : IsOpened log start
+  pub room : start.geometry.backing_sectors ≤ (of_backing start.backing).sectors
+  pub stands : (base : Image) → IsOnly base (Told backing) → IsSome log.content → Standing of_log of_backing start base []
+  pub synced : IsSynced of_log of_backing start
+  pub log_synced : IsOnlySynced log (of_log start.log)
+  pub backing_synced : IsOnlySynced backing (of_backing start.backing)
+  pub log_faults : (of_log start.log).faults ≡ log.faults
+  pub backing_faults : (of_backing start.backing).faults ≡ backing.faults
 
-  abbrev pub opening : {log opened_log backing opened_backing : State} {start : EngineContent L B} → IsOpened log start → IsEngine start opened_log opened_backing
-      → ((base : Image) → IsOnly base (Told backing) → IsSome log.content → Standing start opened_log opened_backing base []) → IsSynced start opened_log opened_backing
-      → IsOnlySynced log opened_log × (opened_log.faults ≡ log.faults) → IsOnlySynced backing opened_backing × (opened_backing.faults ≡ backing.faults)
-      → Opens log opened_log backing opened_backing start
-  opening fresh sound stands synced log backing = record {
+module _ {L B : Type 0} {of_log : L → State} {of_backing : B → State} {log backing : State} {start : EngineContent L B} where
+  abbrev pub opening : IsOpened log start → IsEngine of_log of_backing start
+      → ((base : Image) → IsOnly base (Told backing) → IsSome log.content → Standing of_log of_backing start base []) → IsSynced of_log of_backing start
+      → IsOnlySynced log (of_log start.log) × ((of_log start.log).faults ≡ log.faults)
+      → IsOnlySynced backing (of_backing start.backing) × ((of_backing start.backing).faults ≡ backing.faults)
+      → Opens of_log of_backing log backing start
+  opening fresh sound stands synced log_synced backing_synced = record {
     fresh = fresh;
     room = sound.backing_room;
     stands = stands;
     synced = synced;
-    log_synced = log.0;
-    backing_synced = backing.0;
-    log_faults = log.1;
-    backing_faults = backing.1;
+    log_synced = log_synced.0;
+    backing_synced = backing_synced.0;
+    log_faults = log_synced.1;
+    backing_faults = backing_synced.1;
   }
 
-  pub may_open : {log opened_log backing opened_backing : State} {start : EngineContent L B} → (opens : Opens log opened_log backing opened_backing start) → MayOpen log backing.sectors opens.fresh.found
-  may_open {start = start} opens = record {
+  pub may_open : (opens : Opens of_log of_backing log backing start) → MayOpen log backing.sectors opens.fresh.found
+  may_open opens = record {
     super = opens.fresh.super;
     ids = opens.fresh.ids;
     fits = let same = ap (λ (g : Geometry). g.backing_sectors) opens.fresh.geometry in omega (arith, same, opens.room, opens.backing_synced.same.size);
   }
 
   -- nothing was done since
-  pub come_opened : {log opened_log backing opened_backing : State} {start : EngineContent L B} → Opens log opened_log backing opened_backing start
-      → HasCome opened_log opened_log opened_backing opened_backing start start [] 0 0
-  come_opened {log} {opened_log} {backing} {opened_backing} {start} opens = record {
+  pub come_opened : Opens of_log of_backing log backing start → HasCome of_log of_backing start start [] 0 0
+  come_opened opens = record {
     places = sym opens.fresh.absorbed;
     stands = λ base only some. opens.stands base (record { only = λ y told. only.only y (opens.backing_synced.content ∙ told) }) (subst (λ (content : Option Image). IsSome content) opens.log_synced.content some);
     changed = λ some. content_same (λ x told. puts_none [] x) refl;
     synced = opens.synced;
-    same_log = same_device opened_log;
-    same_backing = same_device opened_backing;
+    same_log = same_device (of_log start.log);
+    same_backing = same_device (of_backing start.backing);
     kept = record { geometry = refl; first = refl };
-    log_faults = no_faults Log opened_log.faults opens.fresh.up;
-    backing_faults = no_faults Backing opened_backing.faults opens.fresh.up;
+    log_faults = no_faults Log (of_log start.log).faults opens.fresh.up;
+    backing_faults = no_faults Backing (of_backing start.backing).faults opens.fresh.up;
   }

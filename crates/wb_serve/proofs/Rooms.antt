@@ -23,23 +23,23 @@ use Rattle.wb_serve.proofs.Moves.{moved_none, moved_then, moved_turn}
 abbrev pub InOrder : Numbers → Type 0
 InOrder e = (e.first ≤ e.recorded) × (e.recorded ≤ e.back) × (e.back ≤ e.stable) × (e.stable ≤ e.logged)
 
-module _ {L B T : Type 0} where
-  logs_order : (old new : EngineContent L B) (log new_log : State) (r : Result T Which) → InOrder old.numbers → LogsNext old new log new_log r → InOrder new.numbers
-  logs_order old new log new_log (Ok x) order does = subst InOrder (sym does.ok.0) (order.0, order.1, order.2, omega (arith, order.3))
-  logs_order old new log new_log (Err which) order does = subst InOrder (sym does.failed.1) order
+module _ {L B T : Type 0} {of_log : L → State} {of_backing : B → State} where
+  logs_order : (old new : EngineContent L B) (r : Result T Which) → InOrder old.numbers → LogsNext of_log of_backing old new r → InOrder new.numbers
+  logs_order old new (Ok x) order does = subst InOrder (sym does.ok.0) (order.0, order.1, order.2, omega (arith, order.3))
+  logs_order old new (Err which) order does = subst InOrder (sym does.failed.1) order
 
-  syncs_order : (old new : EngineContent L B) (log new_log : State) (r : Result T Which) → InOrder old.numbers → SyncsLog old new log new_log r → InOrder new.numbers
-  syncs_order old new log new_log (Ok x) order does = subst InOrder (sym does.ok.0) (order.0, order.1, omega (arith, order.2, order.3), omega arith)
-  syncs_order old new log new_log (Err which) order does = subst InOrder (sym does.failed.1) order
+  syncs_order : (old new : EngineContent L B) (r : Result T Which) → InOrder old.numbers → SyncsLog of_log of_backing old new r → InOrder new.numbers
+  syncs_order old new (Ok x) order does = subst InOrder (sym does.ok.0) (order.0, order.1, omega (arith, order.2, order.3), omega arith)
+  syncs_order old new (Err which) order does = subst InOrder (sym does.failed.1) order
 
-  backs_order : (old new : EngineContent L B) (log new_log backing new_backing : State) (r : Result T Which) → InOrder old.numbers → MayBack old.numbers
-      → WritesBack old new log new_log backing new_backing r → InOrder new.numbers
-  backs_order old new log new_log backing new_backing (Ok x) order may does = subst InOrder (sym does.ok.0) (order.0, omega (arith, order.1), omega (arith, may), order.3)
-  backs_order old new log new_log backing new_backing (Err which) order may does = subst InOrder (sym does.failed.0) order
+  backs_order : (old new : EngineContent L B) (r : Result T Which) → InOrder old.numbers → MayBack old.numbers
+      → WritesBack of_log of_backing old new r → InOrder new.numbers
+  backs_order old new (Ok x) order may does = subst InOrder (sym does.ok.0) (order.0, omega (arith, order.1), omega (arith, may), order.3)
+  backs_order old new (Err which) order may does = subst InOrder (sym does.failed.0) order
 
-  records_order : (old new : EngineContent L B) (log new_log : State) (r : Result T Which) → InOrder old.numbers → PutsRecord old new log new_log r → InOrder new.numbers
-  records_order old new log new_log (Ok x) order does = subst InOrder (sym does.ok.0) (omega (arith, order.0, order.1), omega arith, order.2, order.3)
-  records_order old new log new_log (Err which) order does = subst InOrder (sym does.failed.1) order
+  records_order : (old new : EngineContent L B) (r : Result T Which) → InOrder old.numbers → PutsRecord of_log of_backing old new r → InOrder new.numbers
+  records_order old new (Ok x) order does = subst InOrder (sym does.ok.0) (omega (arith, order.0, order.1), omega arith, order.2, order.3)
+  records_order old new (Err which) order does = subst InOrder (sym does.failed.1) order
 
 not_less : (a b : ℕ) → (a < b → ⊥) → b ≤ a
 not_less a b not = elim (cases_lt a b) [
@@ -53,48 +53,49 @@ all_full g e absorbed full =
     let low : places g * g.ram ≤ places g * (e.logged - e.first + g.ram) = mul-le (places g) g.ram (places g) (e.logged - e.first + g.ram) (omega arith) (omega arith) in
     omega (arith, low, full)
 
-module _ {L B : Type 0} where
-  turn_order : (old new : EngineContent L B) (log new_log backing new_backing : State) (r : Result Turn Which) → InOrder old.numbers → IsTurn old new log new_log backing new_backing r → InOrder new.numbers
-  turn_order old new log new_log backing new_backing r order (inl did) = logs_order old new log new_log r order did.1
-  turn_order old new log new_log backing new_backing r order (inr (inl did)) = syncs_order old new log new_log r order did.2
-  turn_order old new log new_log backing new_backing r order (inr (inr (inl did))) = backs_order old new log new_log backing new_backing r order did.2 did.3
-  turn_order old new log new_log backing new_backing r order (inr (inr (inr (inl did)))) = records_order old new log new_log r order did.4
-  turn_order old new log new_log backing new_backing r order (inr (inr (inr (inr did)))) = subst (λ (e : EngineContent L B). InOrder e.numbers) (sym did.5) order
+module _ {L B : Type 0} {of_log : L → State} {of_backing : B → State} where
+  turn_order : (old new : EngineContent L B) (r : Result Turn Which) → InOrder old.numbers → IsTurn of_log of_backing old new r → InOrder new.numbers
+  turn_order old new r order (inl did) = logs_order old new r order did.1
+  turn_order old new r order (inr (inl did)) = syncs_order old new r order did.2
+  turn_order old new r order (inr (inr (inl did))) = backs_order old new r order did.2 did.3
+  turn_order old new r order (inr (inr (inr (inl did)))) = records_order old new r order did.4
+  turn_order old new r order (inr (inr (inr (inr did)))) = subst (λ (e : EngineContent L B). InOrder e.numbers) (sym did.5) order
 
   -- while a sealed segment waits to be logged no turn is idle: where no slot is free for it, the log can be synced, or a
   -- segment be written back or recorded
-  pub busy : (old new : EngineContent L B) (log new_log backing new_backing : State) (r : Result Turn Which) → old.numbers.logged < old.numbers.sealed
-      → IsTurn old new log new_log backing new_backing r → r ≡ Ok turn.Idle → ⊥
-  busy old new log new_log backing new_backing r waits (inl did) is = let says : turn.Idle ≡ turn.Logged = subst (Says turn.Logged) is did.2 in cc
-  busy old new log new_log backing new_backing r waits (inr (inl did)) is = let says : turn.Idle ≡ turn.Synced = subst (Says turn.Synced) is did.3 in cc
-  busy old new log new_log backing new_backing r waits (inr (inr (inl did))) is = let says : turn.Idle ≡ turn.Backed = subst (Says turn.Backed) is did.4 in cc
-  busy old new log new_log backing new_backing r waits (inr (inr (inr (inl did)))) is = let says : turn.Idle ≡ turn.Recorded = subst (Says turn.Recorded) is did.5 in cc
-  busy old new log new_log backing new_backing r waits (inr (inr (inr (inr did)))) is =
+  pub busy : (old new : EngineContent L B) (r : Result Turn Which) → old.numbers.logged < old.numbers.sealed
+      → IsTurn of_log of_backing old new r → r ≡ Ok turn.Idle → ⊥
+  busy old new r waits (inl did) is = let says : turn.Idle ≡ turn.Logged = subst (Says turn.Logged) is did.2 in cc
+  busy old new r waits (inr (inl did)) is = let says : turn.Idle ≡ turn.Synced = subst (Says turn.Synced) is did.3 in cc
+  busy old new r waits (inr (inr (inl did))) is = let says : turn.Idle ≡ turn.Backed = subst (Says turn.Backed) is did.4 in cc
+  busy old new r waits (inr (inr (inr (inl did)))) is = let says : turn.Idle ≡ turn.Recorded = subst (Says turn.Recorded) is did.5 in cc
+  busy old new r waits (inr (inr (inr (inr did)))) is =
       let e : Numbers = old.numbers in
       did.0 (waits, omega (arith, not_less e.stable e.logged did.1, not_less e.back e.stable did.2, not_less e.recorded e.back did.3, old.geometry.slots_fit.0))
 
   -- a turn that failed leaves the engine down by the device that did
-  pub down_by : (old new : EngineContent L B) (log new_log backing new_backing : State) (r : Result Turn Which) (which : Which) → r ≡ Err which
-      → IsTurn old new log new_log backing new_backing r → new.down ≡ Some which
-  down_by old new log new_log backing new_backing (Ok x) which is did = absurd (cc)
-  down_by old new log new_log backing new_backing (Err other) which is (inl did) = let same : other ≡ which = cc in did.1.failed.2 ∙ ap (λ (w : Which). Some w) (sym did.1.failed.0 ∙ same)
-  down_by old new log new_log backing new_backing (Err other) which is (inr (inl did)) = let same : other ≡ which = cc in did.2.failed.2 ∙ ap (λ (w : Which). Some w) (sym did.2.failed.0 ∙ same)
-  down_by old new log new_log backing new_backing (Err other) which is (inr (inr (inl did))) = let same : other ≡ which = cc in did.3.failed.1 ∙ ap (λ (w : Which). Some w) same
-  down_by old new log new_log backing new_backing (Err other) which is (inr (inr (inr (inl did)))) = let same : other ≡ which = cc in did.4.failed.2 ∙ ap (λ (w : Which). Some w) (sym did.4.failed.0 ∙ same)
-  down_by old new log new_log backing new_backing (Err other) which is (inr (inr (inr (inr did)))) = let idle : Err other ≡ Ok turn.Idle = did.4 in absurd (cc)
+  pub down_by : (old new : EngineContent L B) (r : Result Turn Which) (which : Which) → r ≡ Err which
+      → IsTurn of_log of_backing old new r → new.down ≡ Some which
+  down_by old new (Ok x) which is did = absurd (cc)
+  down_by old new (Err other) which is (inl did) = let same : other ≡ which = cc in did.1.failed.2 ∙ ap (λ (w : Which). Some w) (sym did.1.failed.0 ∙ same)
+  down_by old new (Err other) which is (inr (inl did)) = let same : other ≡ which = cc in did.2.failed.2 ∙ ap (λ (w : Which). Some w) (sym did.2.failed.0 ∙ same)
+  down_by old new (Err other) which is (inr (inr (inl did))) = let same : other ≡ which = cc in did.3.failed.1 ∙ ap (λ (w : Which). Some w) same
+  down_by old new (Err other) which is (inr (inr (inr (inl did)))) = let same : other ≡ which = cc in did.4.failed.2 ∙ ap (λ (w : Which). Some w) (sym did.4.failed.0 ∙ same)
+  down_by old new (Err other) which is (inr (inr (inr (inr did)))) = let idle : Err other ≡ Ok turn.Idle = did.4 in absurd (cc)
 
   -- nor has it logged a segment
-  none_logged : (old new : EngineContent L B) (log new_log backing new_backing : State) (r : Result Turn Which) (which : Which) → r ≡ Err which
-      → IsTurn old new log new_log backing new_backing r → new.numbers.logged ≡ old.numbers.logged
-  none_logged old new log new_log backing new_backing (Ok x) which is did = absurd (cc)
-  none_logged old new log new_log backing new_backing (Err other) which is (inl did) = ap (λ (n : Numbers). n.logged) did.1.failed.1
-  none_logged old new log new_log backing new_backing (Err other) which is (inr (inl did)) = ap (λ (n : Numbers). n.logged) did.2.failed.1
-  none_logged old new log new_log backing new_backing (Err other) which is (inr (inr (inl did))) = ap (λ (n : Numbers). n.logged) did.3.failed.0
-  none_logged old new log new_log backing new_backing (Err other) which is (inr (inr (inr (inl did)))) = ap (λ (n : Numbers). n.logged) did.4.failed.1
-  none_logged old new log new_log backing new_backing (Err other) which is (inr (inr (inr (inr did)))) = let idle : Err other ≡ Ok turn.Idle = did.4 in absurd (cc)
+  none_logged : (old new : EngineContent L B) (r : Result Turn Which) (which : Which) → r ≡ Err which
+      → IsTurn of_log of_backing old new r → new.numbers.logged ≡ old.numbers.logged
+  none_logged old new (Ok x) which is did = absurd (cc)
+  none_logged old new (Err other) which is (inl did) = ap (λ (n : Numbers). n.logged) did.1.failed.1
+  none_logged old new (Err other) which is (inr (inl did)) = ap (λ (n : Numbers). n.logged) did.2.failed.1
+  none_logged old new (Err other) which is (inr (inr (inl did))) = ap (λ (n : Numbers). n.logged) did.3.failed.0
+  none_logged old new (Err other) which is (inr (inr (inr (inl did)))) = ap (λ (n : Numbers). n.logged) did.4.failed.1
+  none_logged old new (Err other) which is (inr (inr (inr (inr did)))) = let idle : Err other ≡ Ok turn.Idle = did.4 in absurd (cc)
 
   -- ---- no room
 
+module _ {L B : Type 0} where
   -- a sealed segment waits to be logged
   pub full_waits : (e : EngineContent L B) → InOrder e.numbers → e.numbers.sealed ≡ e.numbers.first + e.absorbed / places e.geometry → limit_of e.geometry e.numbers ≤ e.absorbed
       → e.numbers.logged < e.numbers.sealed
@@ -104,54 +105,55 @@ module _ {L B : Type 0} where
       let segments : k ≤ e.absorbed / n = le-div k e.absorbed n (omega (arith, (places_few e.geometry).0)) (subst (λ (a : ℕ). a ≤ e.absorbed) (mul_comm n k) full) in
       omega (arith, sealed, segments, order.0, order.1, order.2, order.3, e.geometry.ram_fits.0)
 
-  -- ---- turns that make room
+-- ---- turns that make room
 
-  -- some were made from the one to the other, where the segments whose places are taken are sealed
-  pub record MakesRoom (of_log : L → State) (of_backing : B → State) (old new : EngineContent L B) : Type 0 where
-    pub moved : HasMoved (of_log old.log) (of_log new.log) (of_backing old.backing) (of_backing new.backing) old new [] 0 0
-    pub sealed : new.numbers.sealed ≡ new.numbers.first + new.absorbed / places new.geometry
-    pub order : InOrder new.numbers
-    -- where there was room none was made
-    pub kept : HasRoom old → new ≡ old
+-- some were made from the one to the other, where the segments whose places are taken are sealed
+pub record MakesRoom {L B : Type 0} (of_log : L → State) (of_backing : B → State) (old new : EngineContent L B) : Type 0 where
+  pub moved : HasMoved of_log of_backing old new [] 0 0
+  pub sealed : new.numbers.sealed ≡ new.numbers.first + new.absorbed / places new.geometry
+  pub order : InOrder new.numbers
+  -- where there was room none was made
+  pub kept : HasRoom old → new ≡ old
 
-  pub room_none : (of_log : L → State) (of_backing : B → State) (e : EngineContent L B) → IsEngine e (of_log e.log) (of_backing e.backing) → MakesRoom of_log of_backing e e
-  room_none of_log of_backing e engine = record {
-    moved = moved_none e (of_log e.log) (of_backing e.backing);
+module _ {L B : Type 0} {of_log : L → State} {of_backing : B → State} where
+  pub room_none : (e : EngineContent L B) → IsEngine of_log of_backing e → MakesRoom of_log of_backing e e
+  room_none e engine = record {
+    moved = moved_none e;
     sealed = engine.filled.sealed;
     order = (engine.ordered.start, engine.ordered.recorded, engine.ordered.back, engine.ordered.stable);
     kept = λ room. refl;
   }
 
-  pub room_more : (of_log : L → State) (of_backing : B → State) (old mid new : EngineContent L B) (r : Result Turn Which) → MakesRoom of_log of_backing old mid → mid.down ≡ None → limit_of mid.geometry mid.numbers ≤ mid.absorbed
-      → Moves mid new (of_log mid.log) (of_log new.log) (of_backing mid.backing) (of_backing new.backing)
-      → IsTurn mid new (of_log mid.log) (of_log new.log) (of_backing mid.backing) (of_backing new.backing) r → MakesRoom of_log of_backing old new
-  room_more of_log of_backing old mid new r so_far up full moves did =
+  pub room_more : (old mid new : EngineContent L B) (r : Result Turn Which) → MakesRoom of_log of_backing old mid → mid.down ≡ None → limit_of mid.geometry mid.numbers ≤ mid.absorbed
+      → Moves of_log of_backing mid new
+      → IsTurn of_log of_backing mid new r → MakesRoom of_log of_backing old new
+  room_more old mid new r so_far up full moves did =
       let causes = turn_causes of_log of_backing mid new r up did in
       let same : mid.numbers.first + mid.absorbed / places mid.geometry ≡ new.numbers.first + new.absorbed / places new.geometry = cc (moves.first, moves.absorbed, moves.geometry) in
       record {
         moved = moved_then so_far.moved (moved_turn up moves causes.log_cause causes.backing_cause);
         sealed = moves.sealed ∙ so_far.sealed ∙ same;
-        order = turn_order mid new (of_log mid.log) (of_log new.log) (of_backing mid.backing) (of_backing new.backing) r so_far.order did;
+        order = turn_order mid new r so_far.order did;
         kept = λ room. absurd (let still : HasRoom mid = subst HasRoom (sym (so_far.kept room)) room in omega (arith, still, full));
       }
 
   -- the device that failed in the last of them is the one by which the engine is down, and there is no room still
-  pub room_failed : (of_log : L → State) (of_backing : B → State) (mid new : EngineContent L B) (r : Result Turn Which) (device : Which) → r ≡ Err device
-      → Moves mid new (of_log mid.log) (of_log new.log) (of_backing mid.backing) (of_backing new.backing)
-      → IsTurn mid new (of_log mid.log) (of_log new.log) (of_backing mid.backing) (of_backing new.backing) r → limit_of mid.geometry mid.numbers ≤ mid.absorbed
+  pub room_failed : (mid new : EngineContent L B) (r : Result Turn Which) (device : Which) → r ≡ Err device
+      → Moves of_log of_backing mid new
+      → IsTurn of_log of_backing mid new r → limit_of mid.geometry mid.numbers ≤ mid.absorbed
       → (new.down ≡ Some device) × (limit_of new.geometry new.numbers ≤ new.absorbed)
-  room_failed of_log of_backing mid new r device failed moves did full =
-      let logged = none_logged mid new (of_log mid.log) (of_log new.log) (of_backing mid.backing) (of_backing new.backing) r device failed did in
+  room_failed mid new r device failed moves did full =
+      let logged = none_logged mid new r device failed did in
       let limit : limit_of new.geometry new.numbers ≡ limit_of mid.geometry mid.numbers = cc (logged, moves.first, moves.geometry) in (
-        down_by mid new (of_log mid.log) (of_log new.log) (of_backing mid.backing) (of_backing new.backing) r device failed did,
+        down_by mid new r device failed did,
         omega (arith, limit, full, moves.absorbed),
       )
 
   -- ---- ids
 
   -- where no entry came as many are left as before
-  pub left_still : {log new_log backing new_backing : State} {e f : EngineContent L B} → HasMoved log new_log backing new_backing e f [] 0 0 → (AreSpent e → ⊥) → AreSpent f → ⊥
-  left_still {log} {new_log} {backing} {new_backing} {e} {f} moved left spent =
+  pub left_still : {e f : EngineContent L B} → HasMoved of_log of_backing e f [] 0 0 → (AreSpent e → ⊥) → AreSpent f → ⊥
+  left_still {e} {f} moved left spent =
       let P : Geometry × ℕ → Type 0 = λ t. f.absorbed ≡ places t.0 * (2 ^ 48 - t.1) in
       let same : (f.geometry, f.numbers.first) ≡ (e.geometry, e.numbers.first) = cc (moved.kept.geometry, moved.kept.first) in
       let was : P (f.geometry, f.numbers.first) = spent in
@@ -159,13 +161,14 @@ module _ {L B : Type 0} where
       left (still ∙ subst P same was)
 
   -- the numbers that name a segment are small
-  pub place_small : (e : EngineContent L B) (log backing : State) → IsEngine e log backing → e.absorbed ≤ 2 ^ 55
-  place_small e log backing engine =
+  pub place_small : (e : EngineContent L B) → IsEngine of_log of_backing e → e.absorbed ≤ 2 ^ 55
+  place_small e engine =
       let n : ℕ = places e.geometry in
       let few : n ≤ 127 = (places_few e.geometry).1 in
       let top : n * (2 ^ 48 - e.numbers.first) ≤ 127 * 2 ^ 48 = mul-le n (2 ^ 48 - e.numbers.first) 127 (2 ^ 48) few (omega arith) in
       omega (arith, top, engine.filled.ids)
 
+module _ {L B : Type 0} where
   -- where an id is left for the next place, not all are spent
   pub some_left : (e : EngineContent L B) → segment_of e.geometry e.absorbed e.numbers.first ≤ 2 ^ 48 → AreSpent e → ⊥
   some_left e below spent =

@@ -24,7 +24,7 @@ use Rattle.wb_script.specs.declared.transcript.Stop.TheVariants.{Down, Ids}
 use Rattle.wb_crash.specs.declared.numbers.Numbers.{Numbers}
 use Rattle.wb_engine.specs.Content.{EngineContent}
 use Rattle.wb_engine.specs.declared.opening.OpenCause.TheVariants as opening
-use Rattle.wb_serve.specs.Session.{RoseBy, HasStop, IsStopped, IsSession, IsCutShort, base_of}
+use Rattle.wb_serve.specs.Session.{RoseBy, HasStop, IsStopped, Devices, devices, Report, report_of, IsSession, IsCutShort, base_of}
 use Rattle.wb_serve.specs.Playing.{IsOneSector, IsDownBy, IsPlayed, IsPlayedInPart}
 use Rattle.wb_serve.specs.Ending.{is_down_by, TellsOf}
 use Rattle.wb_serve.specs.declared.playing.Played.{Played}
@@ -73,14 +73,25 @@ one_any P lines holds = (0, lines, omega arith, refl, holds)
 
 -- ---- the session
 
-module _ {L B : Type 0} where
-  session_one : {fault : Option Which} {log opened_log log_mid log_end backing opened_backing backing_mid backing_end : State} {start e : EngineContent L B} {h : List HistoryEntry} {lines : List Line} {ids log_read backing_read : Bool}
+-- the one client's answers, with these flags
+abbrev pub report_one : Played → (taken : ℕ) → (log_failed backing_failed : Bool) → Report
+report_one played taken log_failed backing_failed = record {
+  transcripts = played.transcript ∷ [];
+  taken = taken;
+  ids = played.ids;
+  log_failed = log_failed;
+  backing_failed = backing_failed;
+}
+
+module _ {L B : Type 0} {of_log : L → State} {of_backing : B → State} {fault : Option Which} {log log_end backing backing_end : State} {start e : EngineContent L B} where
+  session_one : {h : List HistoryEntry} {played : Played}
       (script : ScriptContent) (requests : List Request) (log_failed backing_failed : Bool)
-      → (opens : Opens log opened_log backing opened_backing start) → script.sectors ≤ start.geometry.backing_sectors → script.requests ≡ requests ∷ []
-      → IsPlayed 0 requests opened_log log_mid opened_backing backing_mid start e lines h ids log_read backing_read → Closes fault log_mid log_end backing_mid backing_end e
-      → log_failed ≡ (log_read || is_down_by Log fault) → backing_failed ≡ (backing_read || is_down_by Backing fault)
-      → IsSession opens.fresh.found script log log_end backing backing_end (lines ∷ []) (length h) ids log_failed backing_failed
-  session_one {fault} {log} {opened_log} {log_mid} {log_end} {backing} {opened_backing} {backing_mid} {backing_end} {start} {e} {h} {lines} {ids} {log_read} {backing_read} script requests log_failed backing_failed opens fits one p closes log_flag backing_flag =
+      → (opens : Opens of_log of_backing log backing start) → script.sectors ≤ start.geometry.backing_sectors → script.requests ≡ requests ∷ []
+      → IsPlayed of_log of_backing 0 requests start e played h → Closes of_log of_backing fault log_end backing_end e
+      → log_failed ≡ (played.log_failed || is_down_by Log fault) → backing_failed ≡ (played.backing_failed || is_down_by Backing fault)
+      → IsSession opens.fresh.found script (devices log backing) (devices log_end backing_end) (report_one played (length h) log_failed backing_failed)
+  session_one {h} {played} script requests log_failed backing_failed opens fits one p closes log_flag backing_flag =
+      let lines : List Line = played.transcript in
       let found = opens.fresh.found in
       let come = p.come in
       let printed = IsHistory-one script requests lines h one p.once in
@@ -89,9 +100,9 @@ module _ {L B : Type 0} where
       let number : e.numbers.first ≡ found.recorded = come.kept.first ∙ ap (λ (n : Numbers). n.first) opens.fresh.numbers in
       let cache : IsCacheOf found (length h) e = record { geometry = geometry; first = number; absorbed = sym places_are } in
       let none : log_failed ≡ false → backing_failed ≡ false → fault ≡ None = λ log_fine fine.
-      no_fault fault (either_false log_read (is_down_by Log fault) (sym log_flag ∙ log_fine)).1 (either_false backing_read (is_down_by Backing fault) (sym backing_flag ∙ fine)).1 in
-      let opened_some : IsSome log.content → IsSome opened_log.content = λ some. subst (λ (content : Option Image). IsSome content) (sym opens.log_synced.content) some in
-      let base_is : base_of opened_log opened_backing ≡ base_of log backing = base_same log opened_log backing opened_backing opens.log_synced.content opens.backing_synced.content in
+      no_fault fault (either_false played.log_failed (is_down_by Log fault) (sym log_flag ∙ log_fine)).1 (either_false played.backing_failed (is_down_by Backing fault) (sym backing_flag ∙ fine)).1 in
+      let opened_some : IsSome log.content → IsSome (of_log start.log).content = λ some. subst (λ (content : Option Image). IsSome content) (sym opens.log_synced.content) some in
+      let base_is : base_of (of_log start.log) (of_backing start.backing) ≡ base_of log backing = base_same log (of_log start.log) backing (of_backing start.backing) opens.log_synced.content opens.backing_synced.content in
       let answers = subst (λ (base : Option Image). AnswersAll base h 0 nothing_seen requests lines) base_is p.answers in
       let down : (device : Which) → IsStopped (Down device) (lines ∷ []) → IsDownBy e device = λ device some. p.stopped_down device (any_one (Any (HasStop (Down device))) lines some) in
       let log_later = end_later closes.log_faults in
@@ -111,9 +122,9 @@ module _ {L B : Type 0} where
             let room : places e.geometry * e.geometry.ram ≡ places found.geometry * found.geometry.ram = ap (λ (g : Geometry). places g * g.ram) geometry in
             omega (arith, full, room, places_are);
         down_log = λ some.
-            log_flag ∙ second_true log_read (is_down_by Log fault) (down_is Log fault (some_of _ closes.log_faults.was_down (down Log some).down).0);
+            log_flag ∙ second_true played.log_failed (is_down_by Log fault) (down_is Log fault (some_of _ closes.log_faults.was_down (down Log some).down).0);
         down_backing = λ some.
-            backing_flag ∙ second_true backing_read (is_down_by Backing fault) (down_is Backing fault (some_of _ closes.backing_faults.was_down (down Backing some).down).0);
+            backing_flag ∙ second_true played.backing_failed (is_down_by Backing fault) (down_is Backing fault (some_of _ closes.backing_faults.was_down (down Backing some).down).0);
         ids_told = λ is. one_any (Any (HasStop Ids)) lines (p.ids_told is);
         ids_spent = λ some.
             let spent = p.stopped_ids (any_one (Any (HasStop Ids)) lines some) in
@@ -122,49 +133,45 @@ module _ {L B : Type 0} where
             (spent.0, places_are ∙ spent.1 ∙ all);
         changed = λ some. content_kept_before opens.backing_synced.content (end_changed come closes (opened_some some));
         crash = λ base is.
-            let told = base_told opened_log opened_backing base (base_is ∙ is) in
+            let told = base_told (of_log start.log) (of_backing start.backing) base (base_is ∙ is) in
             end_crash found (length h) base cache come closes told.0 told.1;
         content = λ log_fine fine some. content_kept_before opens.backing_synced.content (end_content come closes (opened_some some) (none log_fine fine));
         empty = λ log_fine fine x some told. end_empty found (length h) cache come closes (opened_some some) (none log_fine fine) x told;
         durable = λ log_fine fine. closes.durable (none log_fine fine) come.synced;
         log_cause = subst (λ (before : ℕ). CountsFaultsWhere (log_failed ≡ true) before log_end.faults) opens.log_faults
-            (cause_told log_read log_failed come.log_faults closes.log_faults p.log_fails p.log_fine log_flag);
+            (cause_told played.log_failed log_failed come.log_faults closes.log_faults p.log_fails p.log_fine log_flag);
         backing_cause = subst (λ (before : ℕ). CountsFaultsWhere (backing_failed ≡ true) before backing_end.faults) opens.backing_faults
-            (cause_told backing_read backing_failed come.backing_faults closes.backing_faults p.backing_fails p.backing_fine backing_flag);
+            (cause_told played.backing_failed backing_failed come.backing_faults closes.backing_faults p.backing_fails p.backing_fine backing_flag);
       }
 
-  session_served : {fault : Option Which} {log opened_log log_mid log_end backing opened_backing backing_mid backing_end : State} {start e : EngineContent L B} {h : List HistoryEntry} {lines : List Line} {ids log_read backing_read : Bool}
-      (script : ScriptContent) (requests : List Request) (transcripts : List (List Line)) (taken : ℕ) (log_failed backing_failed : Bool)
-      → (opens : Opens log opened_log backing opened_backing start) → script.sectors ≤ start.geometry.backing_sectors → script.requests ≡ requests ∷ []
-      → IsPlayed 0 requests opened_log log_mid opened_backing backing_mid start e lines h ids log_read backing_read → Closes fault log_mid log_end backing_mid backing_end e
-      → transcripts ≡ lines ∷ [] → taken ≡ e.absorbed → log_failed ≡ (log_read || is_down_by Log fault) → backing_failed ≡ (backing_read || is_down_by Backing fault)
-      → IsSession opens.fresh.found script log log_end backing backing_end transcripts taken ids log_failed backing_failed
-  session_served {log = log} {log_end = log_end} {backing = backing} {backing_end = backing_end} {h = h} {lines = lines} {ids = ids} script requests transcripts taken log_failed backing_failed opens fits one p closes written count log_flag backing_flag =
-      let places_are : length h ≡ taken = p.come.places ∙ sym count in
-      subst (λ (t : List (List Line)). IsSession opens.fresh.found script log log_end backing backing_end t taken ids log_failed backing_failed) (sym written)
-      (subst (λ (n : ℕ). IsSession opens.fresh.found script log log_end backing backing_end (lines ∷ []) n ids log_failed backing_failed) places_are
-      (session_one script requests log_failed backing_failed opens fits one p closes log_flag backing_flag))
-
   -- as it is told
-  pub session_told : {fault : Option Which} {log opened_log log_mid log_end backing opened_backing backing_mid backing_end : State} (start e : EngineContent L B) (script : ScriptContent) (requests : List Request) (first taken : ℕ) (played : Result Played AllocError) (session : Session)
-      → (opens : Opens log opened_log backing opened_backing start) → script.sectors ≤ start.geometry.backing_sectors → script.requests ≡ requests ∷ []
-      → IfOk played (λ p. (h : List HistoryEntry) × IsPlayed 0 requests opened_log log_mid opened_backing backing_mid start e p.transcript h p.ids p.log_failed p.backing_failed)
-      → Closes fault log_mid log_end backing_mid backing_end e → first ≡ e.numbers.first → taken ≡ e.absorbed → TellsOf played first taken fault session
-      → IsSession opens.fresh.found script log log_end backing backing_end session.transcripts.items session.places session.ids session.log_failed session.backing_failed × (session.first ≡ opens.fresh.found.recorded)
-  session_told start e script requests first taken (Err none) session opens fits one p closes first_is count tells = absurd tells
-  session_told {log = log} {log_end = log_end} {backing = backing} {backing_end = backing_end} start e script requests first taken (Ok played) session opens fits one p closes first_is count (written, places_are, record_is, ids_are, log_flag, backing_flag) = (
-    subst (λ (ids : Bool). IsSession opens.fresh.found script log log_end backing backing_end session.transcripts.items session.places ids session.log_failed session.backing_failed) (sym ids_are)
-        (session_served script requests session.transcripts.items session.places session.log_failed session.backing_failed opens fits one p.1 closes written (places_are ∙ count) log_flag backing_flag),
+  pub session_told : (script : ScriptContent) (requests : List Request) (first taken : ℕ) (played : Result Played AllocError) (session : Session)
+      → (opens : Opens of_log of_backing log backing start) → script.sectors ≤ start.geometry.backing_sectors → script.requests ≡ requests ∷ []
+      → IfOk played (λ p. (h : List HistoryEntry) × IsPlayed of_log of_backing 0 requests start e p h)
+      → Closes of_log of_backing fault log_end backing_end e → first ≡ e.numbers.first → taken ≡ e.absorbed → TellsOf played first taken fault session
+      → IsSession opens.fresh.found script (devices log backing) (devices log_end backing_end) (report_of session) × (session.first ≡ opens.fresh.found.recorded)
+  session_told script requests first taken (Err none) session opens fits one p closes first_is count tells = absurd tells
+  session_told script requests first taken (Ok played) session opens fits one p closes first_is count (written, places_are, record_is, ids_are, log_flag, backing_flag) = (
+    subst (IsSession opens.fresh.found script (devices log backing) (devices log_end backing_end)) same
+        (session_one script requests session.log_failed session.backing_failed opens fits one p.1 closes log_flag backing_flag),
     record_is ∙ first_is ∙ p.1.come.kept.first ∙ ap (λ (n : Numbers). n.first) opens.fresh.numbers,
   )
+    where
+      same : report_one played (length p.0) session.log_failed session.backing_failed ≡ report_of session
+      same =
+          ap (λ (t : List (List Line)). record (report_one played (length p.0) session.log_failed session.backing_failed) { transcripts = t }) (sym written)
+          ∙ ap (λ (n : ℕ). record (report_of session) { taken = n; ids = played.ids }) (p.1.come.places ∙ sym count ∙ sym places_are)
+          ∙ ap (λ (ids : Bool). record (report_of session) { ids = ids }) (sym ids_are)
 
   -- where memory was wanting behind some answers
-  pub session_cut : {fault : Option Which} {log opened_log log_mid log_end backing opened_backing backing_mid backing_end : State} {start e : EngineContent L B} (script : ScriptContent) (requests : List Request)
-      → (opens : Opens log opened_log backing opened_backing start) → script.sectors ≤ start.geometry.backing_sectors → script.requests ≡ requests ∷ []
-      → IsPlayedInPart 0 requests opened_log log_mid opened_backing backing_mid start e → Closes fault log_mid log_end backing_mid backing_end e
-      → IsCutShort opens.fresh.found script log log_end backing backing_end
-  session_cut {fault} script requests opens fits one part closes =
+  pub session_cut : (script : ScriptContent) (requests : List Request)
+      → (opens : Opens of_log of_backing log backing start) → script.sectors ≤ start.geometry.backing_sectors → script.requests ≡ requests ∷ []
+      → IsPlayedInPart of_log of_backing 0 requests start e → Closes of_log of_backing fault log_end backing_end e
+      → IsCutShort opens.fresh.found script (devices log backing) (devices log_end backing_end)
+  session_cut script requests opens fits one part closes =
       let first : List Request = take part.count requests in
+      let log_failed : Bool = part.played.log_failed || is_down_by Log fault in
+      let backing_failed : Bool = part.played.backing_failed || is_down_by Backing fault in
       record {
         answered = first ∷ [];
         cut = record {
@@ -173,28 +180,19 @@ module _ {L B : Type 0} where
               let only : client ≡ 0 = let size = ap length one in omega (arith, below, size) in
               (part.count, ap (λ (c : ℕ). slice_index_or (first ∷ []) c []) only ∙ ap (λ (q : List (List Request)). take part.count (slice_index_or q 0 [])) (sym one) ∙ ap (λ (c : ℕ). take part.count (slice_index_or script.requests c [])) (sym only));
         };
-        transcripts = part.lines ∷ [];
-        taken = length part.history;
-        ids = part.ids;
-        log_failed = part.log_failed || is_down_by Log fault;
-        backing_failed = part.backing_failed || is_down_by Backing fault;
-        session = session_one (record script { requests = first ∷ [] }) first (part.log_failed || is_down_by Log fault) (part.backing_failed || is_down_by Backing fault) opens fits refl part.played closes refl refl;
+        report = report_one part.played (length part.history) log_failed backing_failed;
+        session = session_one (record script { requests = first ∷ [] }) first log_failed backing_failed opens fits refl part.is closes refl refl;
       }
 
 -- a whole session is one of all requests
-pub cut_nowhere : {found : Super} {script : ScriptContent} {log_before log_after backing_before backing_after : State} {transcripts : List (List Line)} {taken : ℕ} {ids log_failed backing_failed : Bool}
-    → IsSession found script log_before log_after backing_before backing_after transcripts taken ids log_failed backing_failed → IsCutShort found script log_before log_after backing_before backing_after
-cut_nowhere {script = script} {transcripts = transcripts} {taken = taken} {ids = ids} {log_failed = log_failed} {backing_failed = backing_failed} session = record {
+pub cut_nowhere : {found : Super} {script : ScriptContent} {before after : Devices} {report : Report} → IsSession found script before after report → IsCutShort found script before after
+cut_nowhere {script = script} {report = report} session = record {
   answered = script.requests;
   cut = record {
     clients = refl;
     each = λ client below. let all : List Request = slice_index_or script.requests client [] in (length all, sym (take_all (length all) all (omega arith)));
   };
-  transcripts = transcripts;
-  taken = taken;
-  ids = ids;
-  log_failed = log_failed;
-  backing_failed = backing_failed;
+  report = report;
   session = session;
 }
 

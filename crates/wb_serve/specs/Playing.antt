@@ -17,6 +17,7 @@ use Rattle.wb_script.specs.declared.transcript.Stop.TheVariants.{Whole, Down, Id
 use Rattle.wb_engine.specs.Content.{EngineContent, limit_of}
 use Rattle.wb_engine.specs.Standing.{Standing, Told, IsSynced}
 use Rattle.wb_engine.specs.Opening.{IsOnly}
+use Rattle.wb_serve.specs.declared.playing.Played.{Played}
 use Rattle.wb_serve.specs.Session.{RoseBy, HasStop, base_of}
 
 -- one sector of a backing device of so many, and a pattern of one byte
@@ -41,30 +42,30 @@ pub record FaultsWent (device : Which) (fails : ℕ) (down new_down : Option Whi
 
 -- The engine went on from e to f over devices that passed from old to new, of which so many reads failed: these entries came
 -- behind the history.
-pub record HasMoved {L B : Type 0} (log new_log backing new_backing : State) (e f : EngineContent L B) (entries : List HistoryEntry) (log_fails backing_fails : ℕ) : Type 0 where
-  pub stands : (base : Image) (history : List HistoryEntry) → Standing e log backing base history → Standing f new_log new_backing base (history ++ entries)
-  pub changed : (base : Image) (history : List HistoryEntry) → Standing e log backing base history → ContentPasses (PutsPartly (history ++ entries)) backing new_backing
-  pub synced : IsSynced e log backing → IsSynced f new_log new_backing
-  pub same_log : IsSameDevice log new_log
-  pub same_backing : IsSameDevice backing new_backing
+pub record HasMoved {L B : Type 0} (of_log : L → State) (of_backing : B → State) (e f : EngineContent L B) (entries : List HistoryEntry) (log_fails backing_fails : ℕ) : Type 0 where
+  pub stands : (base : Image) (history : List HistoryEntry) → Standing of_log of_backing e base history → Standing of_log of_backing f base (history ++ entries)
+  pub changed : (base : Image) (history : List HistoryEntry) → Standing of_log of_backing e base history → ContentPasses (PutsPartly (history ++ entries)) (of_backing e.backing) (of_backing f.backing)
+  pub synced : IsSynced of_log of_backing e → IsSynced of_log of_backing f
+  pub same_log : IsSameDevice (of_log e.log) (of_log f.log)
+  pub same_backing : IsSameDevice (of_backing e.backing) (of_backing f.backing)
   pub kept : IsSameCache e f
   pub absorbed : f.absorbed ≡ e.absorbed + length entries
-  pub log_faults : FaultsWent Log log_fails e.down f.down log.faults new_log.faults
-  pub backing_faults : FaultsWent Backing backing_fails e.down f.down backing.faults new_backing.faults
+  pub log_faults : FaultsWent Log log_fails e.down f.down (of_log e.log).faults (of_log f.log).faults
+  pub backing_faults : FaultsWent Backing backing_fails e.down f.down (of_backing e.backing).faults (of_backing f.backing).faults
   pub stays_down : IfSome e.down (λ which. f.down ≡ Some which)
 
 -- The same since the engine was opened: it absorbed this history, and where the log tells its content it stands for it, over
 -- the content that the backing device then told.
-pub record HasCome {L B : Type 0} (opened_log log opened_backing backing : State) (start e : EngineContent L B) (history : List HistoryEntry) (log_fails backing_fails : ℕ) : Type 0 where
+pub record HasCome {L B : Type 0} (of_log : L → State) (of_backing : B → State) (start e : EngineContent L B) (history : List HistoryEntry) (log_fails backing_fails : ℕ) : Type 0 where
   pub places : length history ≡ e.absorbed
-  pub stands : (base : Image) → IsOnly base (Told opened_backing) → IsSome opened_log.content → Standing e log backing base history
-  pub changed : IsSome opened_log.content → ContentPasses (PutsPartly history) opened_backing backing
-  pub synced : IsSynced e log backing
-  pub same_log : IsSameDevice opened_log log
-  pub same_backing : IsSameDevice opened_backing backing
+  pub stands : (base : Image) → IsOnly base (Told (of_backing start.backing)) → IsSome (of_log start.log).content → Standing of_log of_backing e base history
+  pub changed : IsSome (of_log start.log).content → ContentPasses (PutsPartly history) (of_backing start.backing) (of_backing e.backing)
+  pub synced : IsSynced of_log of_backing e
+  pub same_log : IsSameDevice (of_log start.log) (of_log e.log)
+  pub same_backing : IsSameDevice (of_backing start.backing) (of_backing e.backing)
   pub kept : IsSameCache start e
-  pub log_faults : FaultsWent Log log_fails None e.down opened_log.faults log.faults
-  pub backing_faults : FaultsWent Backing backing_fails None e.down opened_backing.faults backing.faults
+  pub log_faults : FaultsWent Log log_fails None e.down (of_log start.log).faults (of_log e.log).faults
+  pub backing_faults : FaultsWent Backing backing_fails None e.down (of_backing start.backing).faults (of_backing e.backing).faults
 
 -- ---- a write
 
@@ -98,10 +99,10 @@ abbrev pub IsQuiet : {L B : Type 0} (e f : EngineContent L B) → Type 0
 IsQuiet e f = HasRoom e ⊎ AreSpent e → (f.log ≡ e.log) × (f.backing ≡ e.backing)
 
 -- the entry takes the next place, or none where it was stopped
-abbrev pub TakesPlace : {L B : Type 0} (log new_log backing new_backing : State) (e f : EngineContent L B) → HistoryEntry → Result ℕ Stop → Type 0
-TakesPlace log new_log backing new_backing e f entry (Ok place) =
-    (place ≡ e.absorbed) × (AreSpent e → ⊥) × HasMoved log new_log backing new_backing e f (entry ∷ []) 0 0 × IsQuiet e f
-TakesPlace log new_log backing new_backing e f entry (Err stop) = IsStoppedBy f stop × HasMoved log new_log backing new_backing e f [] 0 0 × IsQuiet e f
+abbrev pub TakesPlace : {L B : Type 0} (of_log : L → State) (of_backing : B → State) (e f : EngineContent L B) → HistoryEntry → Result ℕ Stop → Type 0
+TakesPlace of_log of_backing e f entry (Ok place) =
+    (place ≡ e.absorbed) × (AreSpent e → ⊥) × HasMoved of_log of_backing e f (entry ∷ []) 0 0 × IsQuiet e f
+TakesPlace of_log of_backing e f entry (Err stop) = IsStoppedBy f stop × HasMoved of_log of_backing e f [] 0 0 × IsQuiet e f
 
 -- the line of a write of one part
 abbrev pub wrote : Result ℕ Stop → Line
@@ -111,18 +112,18 @@ wrote (Err stop) = Wrote [] stop
 -- ---- a request
 
 -- The engine stands for this history over the base image, where there is one.
-pub record StandsOver {L B : Type 0} (content : Option Image) (log backing : State) (e : EngineContent L B) (history : List HistoryEntry) : Type 0 where
+pub record StandsOver {L B : Type 0} (of_log : L → State) (of_backing : B → State) (content : Option Image) (e : EngineContent L B) (history : List HistoryEntry) : Type 0 where
   pub places : length history ≡ e.absorbed
-  pub told : IfSome content (λ base. ((image : Image) × Told backing image) × Standing e log backing base history)
+  pub told : IfSome content (λ base. ((image : Image) × Told (of_backing e.backing) image) × Standing of_log of_backing e base history)
 
 -- What answering a request of a client leaves: a line, and the entries that it prints behind those before.
-pub record IsAnswered {L B : Type 0} (client : ℕ) (request : Request) (log new_log backing new_backing : State) (e f : EngineContent L B) (line : Line) : Type 0 where
+pub record IsAnswered {L B : Type 0} (of_log : L → State) (of_backing : B → State) (client : ℕ) (request : Request) (e f : EngineContent L B) (line : Line) : Type 0 where
   pub entries : List HistoryEntry
-  pub moved : HasMoved log new_log backing new_backing e f entries (is_failure Log line) (is_failure Backing line)
+  pub moved : HasMoved of_log of_backing e f entries (is_failure Log line) (is_failure Backing line)
   pub once : printed_line client request line ≡ enumerate_from e.absorbed entries
   pub own : All (λ entry. client_of entry ≡ client) entries
   -- whatever the client has seen of the entries before
-  pub answers : (content : Option Image) (history : List HistoryEntry) → StandsOver content log backing e history → (seen : Seen) → seen.number ≤ e.absorbed
+  pub answers : (content : Option Image) (history : List HistoryEntry) → StandsOver of_log of_backing content e history → (seen : Seen) → seen.number ≤ e.absorbed
       → Answers content (history ++ entries) client seen request line
   pub sees : (seen : Seen) → seen.number ≤ e.absorbed → (seen_after seen request line).number ≤ e.absorbed + length entries
   pub stopped_down : (device : Which) → HasStop (Down device) line → IsStoppedDown f device
@@ -142,27 +143,24 @@ is_stopped_line (Failed device) = false
 
 -- What playing them leaves: their lines, the history that they print, whether a write was stopped for want of an id, and
 -- whether a read failed on either device.
-pub record IsPlayed {L B : Type 0} (client : ℕ) (requests : List Request) (opened_log log opened_backing backing : State) (start e : EngineContent L B)
-    (lines : List Line) (history : List HistoryEntry) (ids log_failed backing_failed : Bool) : Type 0 where
-  pub come : HasCome opened_log log opened_backing backing start e history (failures Log lines) (failures Backing lines)
-  pub once : printed client requests lines ≡ enumerate_from 0 history
+pub record IsPlayed {L B : Type 0} (of_log : L → State) (of_backing : B → State) (client : ℕ) (requests : List Request) (start e : EngineContent L B)
+    (played : Played) (history : List HistoryEntry) : Type 0 where
+  pub come : HasCome of_log of_backing start e history (failures Log played.transcript) (failures Backing played.transcript)
+  pub once : printed client requests played.transcript ≡ enumerate_from 0 history
   pub own : All (λ entry. client_of entry ≡ client) history
-  pub answers : AnswersAll (base_of opened_log opened_backing) history client nothing_seen requests lines
-  pub sees : (seen_after_all nothing_seen requests lines).number ≤ length history
-  pub log_fails : log_failed ≡ true → 1 ≤ failures Log lines
-  pub log_fine : log_failed ≡ false → failures Log lines ≡ 0
-  pub backing_fails : backing_failed ≡ true → 1 ≤ failures Backing lines
-  pub backing_fine : backing_failed ≡ false → failures Backing lines ≡ 0
-  pub stopped_down : (device : Which) → Any (HasStop (Down device)) lines → IsDownBy e device
-  pub stopped_ids : Any (HasStop Ids) lines → (ids ≡ true) × AreSpent e
-  pub ids_told : ids ≡ true → Any (HasStop Ids) lines
+  pub answers : AnswersAll (base_of (of_log start.log) (of_backing start.backing)) history client nothing_seen requests played.transcript
+  pub sees : (seen_after_all nothing_seen requests played.transcript).number ≤ length history
+  pub log_fails : played.log_failed ≡ true → 1 ≤ failures Log played.transcript
+  pub log_fine : played.log_failed ≡ false → failures Log played.transcript ≡ 0
+  pub backing_fails : played.backing_failed ≡ true → 1 ≤ failures Backing played.transcript
+  pub backing_fine : played.backing_failed ≡ false → failures Backing played.transcript ≡ 0
+  pub stopped_down : (device : Which) → Any (HasStop (Down device)) played.transcript → IsDownBy e device
+  pub stopped_ids : Any (HasStop Ids) played.transcript → (played.ids ≡ true) × AreSpent e
+  pub ids_told : played.ids ≡ true → Any (HasStop Ids) played.transcript
 
 -- Some of the first requests were played, though nothing is told of it.
-pub record IsPlayedInPart {L B : Type 0} (client : ℕ) (requests : List Request) (opened_log log opened_backing backing : State) (start e : EngineContent L B) : Type 0 where
+pub record IsPlayedInPart {L B : Type 0} (of_log : L → State) (of_backing : B → State) (client : ℕ) (requests : List Request) (start e : EngineContent L B) : Type 0 where
   pub count : ℕ
-  pub lines : List Line
+  pub played : Played
   pub history : List HistoryEntry
-  pub ids : Bool
-  pub log_failed : Bool
-  pub backing_failed : Bool
-  pub played : IsPlayed client (take count requests) opened_log log opened_backing backing start e lines history ids log_failed backing_failed
+  pub is : IsPlayed of_log of_backing client (take count requests) start e played history

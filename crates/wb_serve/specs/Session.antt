@@ -52,47 +52,73 @@ base_of log backing = told_with log.content backing.content
 abbrev pub last_segment : Super → (taken : ℕ) → ℕ
 last_segment found taken = found.recorded + (taken + places found.geometry - 1) / places found.geometry
 
+-- the states of a log and of the backing device that it stands before
+pub record Devices : Type 1 where
+  pub log : State
+  pub backing : State
+
+abbrev pub devices : (log backing : State) → Devices
+devices log backing = record { log = log; backing = backing }
+
+-- what is told of a session: the lines of each client, how many places were taken, whether a write was stopped for want of an
+-- id, and for each device whether it failed
+pub record Report : Type 0 where
+  pub transcripts : List (List Line)
+  pub taken : ℕ
+  pub ids : Bool
+  pub log_failed : Bool
+  pub backing_failed : Bool
+
+-- that of a session that was served
+abbrev pub report_of : Session → Report
+report_of session = record {
+  transcripts = session.transcripts.items;
+  taken = session.places;
+  ids = session.ids;
+  log_failed = session.log_failed;
+  backing_failed = session.backing_failed;
+}
+
 -- A session of this script, over a cache with this superblock. The history is that of the transcripts. The flags say that a
 -- write was stopped for want of an id, and that a device failed. What is said of contents holds where the log tells its own.
-pub record IsSession (found : Super) (script : ScriptContent) (log_before log_after backing_before backing_after : State)
-    (transcripts : List (List Line)) (taken : ℕ) (ids log_failed backing_failed : Bool) : Type 0 where
-  pub opened : MayOpen log_before backing_before.sectors found
-  pub no_stray : HasNoStray found.geometry found.recorded log_before
+pub record IsSession (found : Super) (script : ScriptContent) (before now : Devices) (report : Report) : Type 0 where
+  pub opened : MayOpen before.log before.backing.sectors found
+  pub no_stray : HasNoStray found.geometry found.recorded before.log
   pub fits : script.sectors ≤ found.geometry.backing_sectors
   pub history : List HistoryEntry
-  pub printed : IsHistory script transcripts taken history
-  pub only : (other : List HistoryEntry) → IsHistory script transcripts taken other → other ≡ history
-  pub legal : AreLegal (base_of log_before backing_before) history 0 script.requests transcripts
+  pub printed : IsHistory script report.transcripts report.taken history
+  pub only : (other : List HistoryEntry) → IsHistory script report.transcripts report.taken other → other ≡ history
+  pub legal : AreLegal (base_of before.log before.backing) history 0 script.requests report.transcripts
   -- no more lines say that a read of a device failed than it failed
-  pub log_failures : RoseBy (all_failures Log transcripts) log_before.faults log_after.faults
-  pub backing_failures : RoseBy (all_failures Backing transcripts) backing_before.faults backing_after.faults
+  pub log_failures : RoseBy (all_failures Log report.transcripts) before.log.faults now.log.faults
+  pub backing_failures : RoseBy (all_failures Backing report.transcripts) before.backing.faults now.backing.faults
   -- a write is stopped by a device only where that failed, and all segments in memory were full
-  pub down_full : (device : Which) → IsStopped (Down device) transcripts → places found.geometry * found.geometry.ram ≤ taken
-  pub down_log : IsStopped (Down Log) transcripts → log_failed ≡ true
-  pub down_backing : IsStopped (Down Backing) transcripts → backing_failed ≡ true
+  pub down_full : (device : Which) → IsStopped (Down device) report.transcripts → places found.geometry * found.geometry.ram ≤ report.taken
+  pub down_log : IsStopped (Down Log) report.transcripts → report.log_failed ≡ true
+  pub down_backing : IsStopped (Down Backing) report.transcripts → report.backing_failed ≡ true
   -- and for want of an id only once all are spent
-  pub ids_told : ids ≡ true → IsStopped Ids transcripts
-  pub ids_spent : IsStopped Ids transcripts → (ids ≡ true) × (taken ≡ places found.geometry * (2 ^ 48 - found.recorded))
+  pub ids_told : report.ids ≡ true → IsStopped Ids report.transcripts
+  pub ids_spent : IsStopped Ids report.transcripts → (report.ids ≡ true) × (report.taken ≡ places found.geometry * (2 ^ 48 - found.recorded))
   -- no sector changes but to what an entry of the history writes
-  pub changed : IsSome log_before.content → ContentPasses (PutsPartly history) backing_before backing_after
+  pub changed : IsSome before.log.content → ContentPasses (PutsPartly history) before.backing now.backing
   -- recovery makes of whatever a crash now leaves the image after exactly the first segments, up to some segment
-  pub crash : (base : Image) → base_of log_before backing_before ≡ Some base
-      → CrashNow found.geometry (line_of (places found.geometry) found.recorded base history) found.recorded (last_segment found taken) log_after backing_after
+  pub crash : (base : Image) → base_of before.log before.backing ≡ Some base
+      → CrashNow found.geometry (line_of (places found.geometry) found.recorded base history) found.recorded (last_segment found report.taken) now.log now.backing
   -- where neither device failed the whole history is put and recorded, recovery finds no segment, and a crash leaves it so
-  pub content : log_failed ≡ false → backing_failed ≡ false → IsSome log_before.content
-      → ContentPasses (λ base image. image ≡ after base history) backing_before backing_after
-  pub empty : log_failed ≡ false → backing_failed ≡ false → (x : Image) → IsSome log_before.content → log_after.content ≡ Some x
-      → IsChain found.geometry x [] × (record_of x ≡ last_segment found taken)
-  pub durable : log_failed ≡ false → backing_failed ≡ false → NothingPending log_after × NothingPending backing_after
-  pub log_cause : CountsFaultsWhere (log_failed ≡ true) log_before.faults log_after.faults
-  pub backing_cause : CountsFaultsWhere (backing_failed ≡ true) backing_before.faults backing_after.faults
+  pub content : report.log_failed ≡ false → report.backing_failed ≡ false → IsSome before.log.content
+      → ContentPasses (λ base image. image ≡ after base history) before.backing now.backing
+  pub empty : report.log_failed ≡ false → report.backing_failed ≡ false → (x : Image) → IsSome before.log.content → now.log.content ≡ Some x
+      → IsChain found.geometry x [] × (record_of x ≡ last_segment found report.taken)
+  pub durable : report.log_failed ≡ false → report.backing_failed ≡ false → NothingPending now.log × NothingPending now.backing
+  pub log_cause : CountsFaultsWhere (report.log_failed ≡ true) before.log.faults now.log.faults
+  pub backing_cause : CountsFaultsWhere (report.backing_failed ≡ true) before.backing.faults now.backing.faults
 
 -- Both devices were synced at most, and the backing device not called where the cause comes before that.
-pub record IsUntouched (early : Type 0) (log_before log_after backing_before backing_after : State) : Type 0 where
-  pub log : IsOnlySynced log_before log_after
-  pub backing : IsOnlySynced backing_before backing_after
-  pub early_log : early → OnlyRead log_before log_after
-  pub early_backing : early → IsUncalled backing_before backing_after
+pub record IsUntouched (early : Type 0) (before now : Devices) : Type 0 where
+  pub log : IsOnlySynced before.log now.log
+  pub backing : IsOnlySynced before.backing now.backing
+  pub early_log : early → OnlyRead before.log now.log
+  pub early_backing : early → IsUncalled before.backing now.backing
 
 -- these are the first requests of each client
 pub record IsCutOf (whole part : List (List Request)) : Type 0 where
@@ -101,25 +127,21 @@ pub record IsCutOf (whole part : List (List Request)) : Type 0 where
 
 -- A session that ended for want of memory. Nothing is told of it, but the devices are as a session of the first requests of
 -- each client leaves them.
-pub record IsCutShort (found : Super) (script : ScriptContent) (log_before log_after backing_before backing_after : State) : Type 0 where
+pub record IsCutShort (found : Super) (script : ScriptContent) (before now : Devices) : Type 0 where
   pub answered : List (List Request)
   pub cut : IsCutOf script.requests answered
-  pub transcripts : List (List Line)
-  pub taken : ℕ
-  pub ids : Bool
-  pub log_failed : Bool
-  pub backing_failed : Bool
-  pub session : IsSession found (record script { requests = answered }) log_before log_after backing_before backing_after transcripts taken ids log_failed backing_failed
+  pub report : Report
+  pub session : IsSession found (record script { requests = answered }) before now report
 
 -- Why no session was served, and what was done then. Want of memory has no cause, and may come behind some answers.
-abbrev pub IsUnserved : (script : ScriptContent) (log_before log_after backing_before backing_after : State) → ServeStop → Type 0
-IsUnserved script log_before log_after backing_before backing_after (stop.Open cause) =
-    ((cause ≡ opening.Memory) × ((found : Super) × IsCutShort found script log_before log_after backing_before backing_after))
-    ⊎ (RefusesOpening log_before backing_before.sectors cause × IsUntouched (IsEarly cause) log_before log_after backing_before backing_after)
-IsUnserved script log_before log_after backing_before backing_after (stop.Changed parsed found) =
+abbrev pub IsUnserved : (script : ScriptContent) (before now : Devices) → ServeStop → Type 0
+IsUnserved script before now (stop.Open cause) =
+    ((cause ≡ opening.Memory) × ((found : Super) × IsCutShort found script before now))
+    ⊎ (RefusesOpening before.log before.backing.sectors cause × IsUntouched (IsEarly cause) before now)
+IsUnserved script before now (stop.Changed parsed found) =
     (parsed ≡ script.sectors) × (found < parsed)
-    × ((super : Super) × MayOpen log_before backing_before.sectors super × HasNoStray super.geometry super.recorded log_before × (found ≡ super.geometry.backing_sectors))
-    × IsUntouched ⊥ log_before log_after backing_before backing_after
+    × ((super : Super) × MayOpen before.log before.backing.sectors super × HasNoStray super.geometry super.recorded before.log × (found ≡ super.geometry.backing_sectors))
+    × IsUntouched ⊥ before now
 
 -- the answer says that the log failed, or that the backing device did
 abbrev pub SaysLogFault : Result Session ServeStop → Type 0

@@ -32,11 +32,10 @@ pub fn play<L: Device, B: Device>(
     requests: &[Request],
 ) -> Result<Played, AllocError>
     requires asked { All (IsOneSector engine.old.geometry.backing_sectors) requests.now }
-    requires opened { HasCome (L.state engine.old.log) (L.state engine.old.log) (B.state engine.old.backing) (B.state engine.old.backing) engine.old engine.old [] 0 0 }
+    requires opened { HasCome L.state B.state engine.old engine.old [] 0 0 }
     ensures played { IfOk result (λ played. (history : List HistoryEntry)
-        × IsPlayed client requests.now (L.state engine.old.log) (L.state engine.new.log) (B.state engine.old.backing) (B.state engine.new.backing) engine.old engine.new
-        played.transcript history played.ids played.log_failed played.backing_failed) }
-    ensures in_part { IfErr result (λ none. IsPlayedInPart client requests.now (L.state engine.old.log) (L.state engine.new.log) (B.state engine.old.backing) (B.state engine.new.backing) engine.old engine.new) }
+        × IsPlayed L.state B.state client requests.now engine.old engine.new played history) }
+    ensures in_part { IfErr result (λ none. IsPlayedInPart L.state B.state client requests.now engine.old engine.new) }
 {
     let mut played = Played {
         transcript: Transcript::with_capacity(alloc, requests.len())?,
@@ -82,8 +81,8 @@ fn answer<L: Device, B: Device>(
     request: &Request,
 ) -> Result<Line, AllocError>
     requires { IsOneSector engine.old.geometry.backing_sectors request.now }
-    ensures answered { IfOk result (IsAnswered client request.now (L.state engine.old.log) (L.state engine.new.log) (B.state engine.old.backing) (B.state engine.new.backing) engine.old engine.new) }
-    ensures unanswered { IfErr result (λ none. HasMoved (L.state engine.old.log) (L.state engine.new.log) (B.state engine.old.backing) (B.state engine.new.backing) engine.old engine.new [] 0 0) }
+    ensures answered { IfOk result (IsAnswered L.state B.state client request.now engine.old engine.new) }
+    ensures unanswered { IfErr result (λ none. HasMoved L.state B.state engine.old engine.new [] 0 0) }
 {
     match request {
         Request::Write {
@@ -104,8 +103,8 @@ fn read<L: Device, B: Device>(
 ) -> Result<Line, AllocError>
     requires { IsOneSector engine.old.geometry.backing_sectors (Read sector 1) }
     ensures answered { IfOk result (λ line. (client : ℕ)
-        → IsAnswered client (Read sector 1) (L.state engine.old.log) (L.state engine.new.log) (B.state engine.old.backing) (B.state engine.new.backing) engine.old engine.new line) }
-    ensures unanswered { IfErr result (λ none. HasMoved (L.state engine.old.log) (L.state engine.new.log) (B.state engine.old.backing) (B.state engine.new.backing) engine.old engine.new [] 0 0) }
+        → IsAnswered L.state B.state client (Read sector 1) engine.old engine.new line) }
+    ensures unanswered { IfErr result (λ none. HasMoved L.state B.state engine.old engine.new [] 0 0) }
 {
     let mut bytes = [0; SECTOR_BYTES];
     match engine.read(sector, &mut bytes) {

@@ -4,7 +4,7 @@ ghost use Rattle.wb_geometry.specs.Device.{CountsFaultsWhere};
 ghost use Rattle.wb_script.specs.Valid.{IsValid};
 ghost use Rattle.wb_super.specs.declared.reading.Super.{Super};
 ghost use Rattle.wb_engine.specs.declared.opening.OpenCause.TheVariants.{Memory};
-ghost use Rattle.wb_serve.specs.Session.{IsSession, IsUnserved, SaysLogFault, SaysBackingFault};
+ghost use Rattle.wb_serve.specs.Session.{devices, report_of, IsSession, IsUnserved, SaysLogFault, SaysBackingFault};
 ghost use Rattle.wb_serve.specs.Ending.{TellsOf, is_down_by};
 ghost use Rattle.wb_serve.specs.declared.serving.ServeStop.TheVariants.{Open};
 
@@ -53,9 +53,8 @@ pub fn serve_plain<L: Device, B: Device>(
     script: &Script,
 ) -> Served<L, B>
     requires { IsValid script.now }
-    ensures session { IfOk result.answer (λ s. (found : Super) × IsSession found script.now (L.state log) (L.state result.log) (B.state backing) (B.state result.backing)
-        s.transcripts.items s.places s.ids s.log_failed s.backing_failed × (s.first ≡ found.recorded)) }
-    ensures unserved { IfErr result.answer (IsUnserved script.now (L.state log) (L.state result.log) (B.state backing) (B.state result.backing)) }
+    ensures session { IfOk result.answer (λ s. (found : Super) × IsSession found script.now (devices (L.state log) (B.state backing)) (devices (L.state result.log) (B.state result.backing)) (report_of s) × (s.first ≡ found.recorded)) }
+    ensures unserved { IfErr result.answer (IsUnserved script.now (devices (L.state log) (B.state backing)) (devices (L.state result.log) (B.state result.backing))) }
     ensures log_cause { result.answer ≢ Err (Open Memory) → CountsFaultsWhere (SaysLogFault result.answer) (L.state log).faults (L.state result.log).faults }
     ensures backing_cause { result.answer ≢ Err (Open Memory) → CountsFaultsWhere (SaysBackingFault result.answer) (B.state backing).faults (B.state result.backing).faults }
 {

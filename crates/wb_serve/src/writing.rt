@@ -26,9 +26,9 @@ pub fn write<L: Device, B: Device>(
     pattern: &Pattern,
 ) -> Result<Line, AllocError>
     requires { IsOneSector engine.old.geometry.backing_sectors (Write sector 1 pattern.now false) }
-    ensures answered { IfOk result (IsAnswered client (Write sector 1 pattern.now false)
-        (L.state engine.old.log) (L.state engine.new.log) (B.state engine.old.backing) (B.state engine.new.backing) engine.old engine.new) }
-    ensures unanswered { IfErr result (λ none. HasMoved (L.state engine.old.log) (L.state engine.new.log) (B.state engine.old.backing) (B.state engine.new.backing) engine.old engine.new [] 0 0) }
+    ensures answered { IfOk result (IsAnswered L.state B.state client (Write sector 1 pattern.now false)
+        engine.old engine.new) }
+    ensures unanswered { IfErr result (λ none. HasMoved L.state B.state engine.old engine.new [] 0 0) }
 {
     let part = Part {
         block: sector / 8,
@@ -66,7 +66,7 @@ fn line_of(taken: Result<u64, Stop>) -> Line
 /// for its segment, or there is no room and the engine is down.
 fn take_place<L: Device, B: Device>(engine: &mut Engine<L, B>, entry: Entry) -> Result<u64, Stop>
     requires { Fits engine.old entry }
-    ensures taken { TakesPlace (L.state engine.old.log) (L.state engine.new.log) (B.state engine.old.backing) (B.state engine.new.backing) engine.old engine.new (entered entry) result }
+    ensures taken { TakesPlace L.state B.state engine.old engine.new (entered entry) result }
 {
     let place = engine.absorbed();
     if engine.geometry().segment_of(place, engine.first()) > MOST_ID {
@@ -82,8 +82,8 @@ fn take_place<L: Device, B: Device>(engine: &mut Engine<L, B>, entry: Entry) -> 
 /// Makes room for an entry where there is none: turns are made until a segment was logged, whose memory is free then. Answers
 /// the device by which the engine is down, where there is no room.
 fn make_room<L: Device, B: Device>(engine: &mut Engine<L, B>) -> Option<Which>
-    requires { IsEngine engine.old (L.state engine.old.log) (B.state engine.old.backing) }
-    ensures moved { HasMoved (L.state engine.old.log) (L.state engine.new.log) (B.state engine.old.backing) (B.state engine.new.backing) engine.old engine.new [] 0 0 }
+    requires { IsEngine L.state B.state engine.old }
+    ensures moved { HasMoved L.state B.state engine.old engine.new [] 0 0 }
     ensures room { result ≡ None → engine.new.absorbed < limit_of engine.new.geometry engine.new.numbers }
     ensures kept { HasRoom engine.old → engine.new ≡ engine.old }
     ensures down { IfSome result (λ device. (engine.new.down ≡ Some device) × (limit_of engine.new.geometry engine.new.numbers ≤ engine.new.absorbed)) }

@@ -29,7 +29,7 @@ use Rattle.wb_script.specs.Output.{session_text}
 use Rattle.wb_script.specs.declared.transcript.Line.{Line}
 use Rattle.wb_engine.specs.Opening.{RefusesSlots}
 use Rattle.wb_engine.specs.declared.opening.OpenCause.TheVariants.{Stray}
-use Rattle.wb_serve.specs.Session.{IsSession}
+use Rattle.wb_serve.specs.Session.{Devices, Report, IsSession}
 use Rattle.wb_tool.specs.Inspect.{InspectAccount}
 use Rattle.wb_tool.specs.Slot.{SlotAccount}
 use Rattle.wb_tool.specs.Format.{FormatAccount, Asks}
@@ -84,14 +84,14 @@ opens sink s g image sectors status ready room (inr (inr (found, super, ids, sma
     omega (arith, small.few, same, room))
 
 -- a session takes fewer places than are left
-not_spent : (s : State) (g : Geometry) (image : Image) (input : List ℕ) (script : ScriptContent) (after backing_before backing_after : State) (transcripts : List (List Line)) (places : ℕ) (found : Super) (ids log_failed backing_failed : Bool)
-    → IsReady s g image → IsScript g.backing_sectors (script_bytes input) script
-    → IsSession found script s after backing_before backing_after transcripts places ids log_failed backing_failed → ids ≡ true → ⊥
-not_spent s g image input script after backing_before backing_after transcripts places found ids log_failed backing_failed ready good session spent =
-    let few = few_places g.backing_sectors (script_bytes input) script transcripts places session.history good session.printed in
+not_spent : (before after : Devices) (g : Geometry) (image : Image) (input : List ℕ) (script : ScriptContent) (found : Super) (report : Report)
+    → IsReady before.log g image → IsScript g.backing_sectors (script_bytes input) script
+    → IsSession found script before after report → report.ids ≡ true → ⊥
+not_spent before after g image input script found report ready good session spent =
+    let few = few_places g.backing_sectors (script_bytes input) script report.transcripts report.taken session.history good session.printed in
     let all = (session.ids_spent (session.ids_told spent)).1 in
     let each = (places_few found.geometry).0 in
-    let left : 2 ^ 26 ≤ 2 ^ 48 - found.recorded = omega (arith, same_record s g image found ready session.opened.super, ready.ids) in
+    let left : 2 ^ 26 ≤ 2 ^ 48 - found.recorded = omega (arith, same_record before.log g image found ready session.opened.super, ready.ids) in
     let more : 1 * (2 ^ 48 - found.recorded) ≤ layout.places found.geometry * (2 ^ 48 - found.recorded) = mul-le-mul_right (2 ^ 48 - found.recorded) each in
     omega (arith, few, all, left, more)
 
@@ -104,17 +104,16 @@ not_at_7 : (r : Run) → ServeAccount r → NoFault r → r.status ≡ 7 → ⊥
 not_at_7 r account fine seven = fine.backing ((account.backing_faults (λ one. omega arith) (λ six. omega arith)).failed seven)
 
 -- a session succeeds, where nothing failed
-session_well : (r : Run) (g : Geometry) (image : Image) (input : List ℕ) (script : ScriptContent) → NoFault r → ServeAccount r → IsReady r.log_before g image
+session_well : (r : Run) (g : Geometry) (image : Image) (input : List ℕ) (script : ScriptContent) → NoFault r → ServeAccount r → IsReady r.before.log g image
     → IsScript g.backing_sectors (script_bytes input) script
-    → Served script r.sink r.log_before r.log_after r.backing_before r.backing_after r.status r.transcripts r.places → Succeeds r
+    → Served script r → Succeeds r
 session_well r g image input script fine account ready good served =
     elim served.ends [
       | inl failed ↦ absurd (not_at_6 r account fine failed.1)
       | inr rest ↦ elim rest [
         | inl failed ↦ absurd (not_at_7 r account fine failed.2)
         | inr rest ↦ elim rest [
-          | inl spent ↦ absurd (not_spent r.log_before g image input script r.log_after r.backing_before r.backing_after r.transcripts r.places served.found served.ids served.log_failed served.backing_failed
-              ready good served.session spent.1)
+          | inl spent ↦ absurd (not_spent r.before r.after g image input script served.found _ ready good served.session spent.1)
           | inr told ↦ told_well r (session_text script r.transcripts r.places) fine.fine told.2
         ]
       ]
@@ -143,69 +142,69 @@ not_stray s g image found slot id ready super (below, above, first) =
     omega (arith, same, ready.tidy slot inside, same_record s g image found ready super, above)
 
 -- so nothing but a fault stops it as the cache is opened
-not_stopped : (r : Run) (g : Geometry) (image : Image) (bytes : List ℕ) (script : ScriptContent) → NoFault r → ServeAccount r → IsReady r.log_before g image → IsScript g.backing_sectors bytes script
+not_stopped : (r : Run) (g : Geometry) (image : Image) (bytes : List ℕ) (script : ScriptContent) → NoFault r → ServeAccount r → IsReady r.before.log g image → IsScript g.backing_sectors bytes script
     → IsStopped script.sectors r → ⊥
 not_stopped r g image bytes script fine account ready good (inl stray) =
-    not_stray r.log_before g image stray.found stray.slot stray.id ready stray.may.super stray.stray
+    not_stray r.before.log g image stray.found stray.slot stray.id ready stray.may.super stray.stray
 not_stopped r g image bytes script fine account ready good (inr (inl failed)) = not_at_6 r account fine failed.ended
 not_stopped r g image bytes script fine account ready good (inr (inr (inl failed))) = not_at_7 r account fine failed.ended
 not_stopped r g image bytes script fine account ready good (inr (inr (inr change))) =
-    not_changed r.log_before g image bytes script change.found ready good change.super change.fewer
+    not_changed r.before.log g image bytes script change.found ready good change.super change.fewer
 
-scripted_well : (r : Run) (g : Geometry) (image : Image) (input : List ℕ) → NoFault r → ServeAccount r → IsReady r.log_before g image → g.backing_sectors ≤ r.backing_before.sectors
+scripted_well : (r : Run) (g : Geometry) (image : Image) (input : List ℕ) → NoFault r → ServeAccount r → IsReady r.before.log g image → g.backing_sectors ≤ r.before.backing.sectors
     → r.source.before ≡ Some input → serve.IsScripted g.backing_sectors r → Succeeds r
 scripted_well r g image input fine account ready room told scripted =
     let good : IsScript g.backing_sectors (script_bytes input) scripted.script = the_good r.source g.backing_sectors input scripted.script told scripted.spelled in
     elim scripted.ends [
-      | inl unbegun ↦ absurd (not_at_6 r account fine (opens r.sink r.log_before g image r.backing_before.sectors r.status ready room unbegun.1))
+      | inl unbegun ↦ absurd (not_at_6 r account fine (opens r.sink r.before.log g image r.before.backing.sectors r.status ready room unbegun.1))
       | inr rest ↦ elim rest [
         | inl broken ↦ absurd (not_stopped r g image (script_bytes input) scripted.script fine account ready good broken.1)
         | inr served ↦ session_well r g image input scripted.script fine account ready good served
       ]
     ]
 
-read_well : (r : Run) (g : Geometry) (image : Image) (input : List ℕ) (script : ScriptContent) → NoFault r → ServeAccount r → IsReady r.log_before g image → g.backing_sectors ≤ r.backing_before.sectors
+read_well : (r : Run) (g : Geometry) (image : Image) (input : List ℕ) (script : ScriptContent) → NoFault r → ServeAccount r → IsReady r.before.log g image → g.backing_sectors ≤ r.before.backing.sectors
     → r.source.before ≡ Some input → IsScript g.backing_sectors (script_bytes input) script → EndsReading g.backing_sectors r → Succeeds r
 read_well r g image input script fine account ready room told good (inl (none, inl failed)) = absurd (fine.source failed.failed)
 read_well r g image input script fine account ready room told good (inl (none, inr refused)) =
     absurd (not_script r.source g.backing_sectors refused.line refused.cause input script told good refused.refused)
 read_well r g image input script fine account ready room told good (inr scripted) = scripted_well r g image input fine account ready room told scripted
 
-serve_complete : (r : Run) → IsDevice r.log_before → ServeAccount r → NoFault r → (g : Geometry) → (formatted : TellsFormatted r g) → IsTidy g formatted.image → LeavesIds g formatted.image
-    → g.backing_sectors ≤ r.backing_before.sectors → IsScripted r g → Succeeds r
+serve_complete : (r : Run) → IsDevice r.before.log → ServeAccount r → NoFault r → (g : Geometry) → (formatted : TellsFormatted r g) → IsTidy g formatted.image → LeavesIds g formatted.image
+    → g.backing_sectors ≤ r.before.backing.sectors → IsScripted r g → Succeeds r
 serve_complete r device account fine g formatted tidy ids room scripted =
-    let ready : IsReady r.log_before g formatted.image = record { device = device; told = formatted.told; text = formatted.text; bounded = formatted.bounded; tidy = tidy; ids = ids } in
+    let ready : IsReady r.before.log g formatted.image = record { device = device; told = formatted.told; text = formatted.text; bounded = formatted.bounded; tidy = tidy; ids = ids } in
     elim account.ends [
       | inl one ↦ inr one
       | inr rest ↦ elim rest [
-        | inl unserved ↦ absurd (not_at_6 r account fine (opens r.sink r.log_before g formatted.image r.backing_before.sectors r.status ready room unserved.ends))
+        | inl unserved ↦ absurd (not_at_6 r account fine (opens r.sink r.before.log g formatted.image r.before.backing.sectors r.status ready room unserved.ends))
         | inr opened ↦
-            let same = same_geometry r.log_before formatted.image g opened.found formatted.told formatted.text opened.super in
+            let same = same_geometry r.before.log formatted.image g opened.found formatted.told formatted.text opened.super in
             read_well r g formatted.image scripted.input scripted.script fine account ready room scripted.told scripted.good
             (subst (λ (h : Geometry). EndsReading h.backing_sectors r) same opened.ends)
       ]
     ]
 
-inspect_complete : (r : Run) → IsDevice r.log_before → InspectAccount r → NoLogFault r → (g : Geometry) → TellsFormatted r g → Succeeds r
+inspect_complete : (r : Run) → IsDevice r.before.log → InspectAccount r → NoLogFault r → (g : Geometry) → TellsFormatted r g → Succeeds r
 inspect_complete r device account fine g formatted =
     elim account.ends.ends [
       | inl one ↦ inr one
       | inr rest ↦ elim rest [
         | inl by_log ↦ absurd (fine.log (account.ends.faults.failed
-            (log_fault r.sink r.log_before r.status formatted.image g device formatted.told formatted.text formatted.bounded by_log)))
+            (log_fault r.sink r.before.log r.status formatted.image g device formatted.told formatted.text formatted.bounded by_log)))
         | inr inspected ↦ told_well r _ fine inspected.told
       ]
     ]
 
-format_complete : (numbers : Numbers) (r : Run) → FormatAccount numbers r → NoLogFault r → 8 ≤ r.backing_before.sectors
-    → (g : Geometry) → Asks numbers r.backing_before.sectors g → log_sectors g ≤ r.log_before.sectors → Succeeds r
+format_complete : (numbers : Numbers) (r : Run) → FormatAccount numbers r → NoLogFault r → 8 ≤ r.before.backing.sectors
+    → (g : Geometry) → Asks numbers r.before.backing.sectors g → log_sectors g ≤ r.before.log.sectors → Succeeds r
 format_complete numbers r account fine some g asks room =
     elim account.ends.ends [
       | inl one ↦ inr one
       | inr rest ↦ elim rest [
         | inl small ↦ absurd (omega (arith, small.0.few, some))
         | inr asked ↦ elim asked.1.2 [
-          | inl small ↦ absurd (omega (arith, small.few, ap log_sectors (asked_one numbers r.backing_before.sectors g asked.1.0 asks asked.1.1), room))
+          | inl small ↦ absurd (omega (arith, small.few, ap log_sectors (asked_one numbers r.before.backing.sectors g asked.1.0 asks asked.1.1), room))
           | inr rest ↦ elim rest [
             | inl failed ↦ absurd (fine.log (account.ends.faults.failed failed.ended))
             | inr formatted ↦ told_well r _ fine formatted.told
@@ -214,16 +213,16 @@ format_complete numbers r account fine some g asks room =
       ]
     ]
 
-slot_complete : (slot : ℕ) (r : Run) → IsDevice r.log_before → SlotAccount slot r → NoLogFault r → (g : Geometry) → TellsFormatted r g → slot < g.slots → Succeeds r
+slot_complete : (slot : ℕ) (r : Run) → IsDevice r.before.log → SlotAccount slot r → NoLogFault r → (g : Geometry) → TellsFormatted r g → slot < g.slots → Succeeds r
 slot_complete slot r device account fine g formatted below =
     elim account.ends.ends [
       | inl one ↦ inr one
       | inr rest ↦ elim rest [
         | inl by_log ↦ absurd (fine.log (account.ends.faults.failed
-            (log_fault r.sink r.log_before r.status formatted.image g device formatted.told formatted.text formatted.bounded by_log)))
+            (log_fault r.sink r.before.log r.status formatted.image g device formatted.told formatted.text formatted.bounded by_log)))
         | inr at_slot ↦ elim at_slot.ends [
           | inl none ↦ absurd (
-              let same = same_geometry r.log_before formatted.image g at_slot.found formatted.told formatted.text at_slot.super in
+              let same = same_geometry r.before.log formatted.image g at_slot.found formatted.told formatted.text at_slot.super in
               omega (arith, none.above, ap (λ (h : Geometry). h.slots) same, below))
           | inr rest ↦ elim rest [
             | inl fault ↦ absurd (fine.log (account.ends.faults.failed fault.ended))
@@ -233,7 +232,7 @@ slot_complete slot r device account fine g formatted below =
       ]
     ]
 
-pub complete : (words : List (List ℕ)) (r : Run) → IsDevice r.log_before → IsAccounted words r → IsComplete words r
+pub complete : (words : List (List ℕ)) (r : Run) → IsDevice r.before.log → IsAccounted words r → IsComplete words r
 complete words r device account = record {
   serve = λ form. serve_complete r device (account.serve form);
   format = λ numbers form. format_complete numbers r (account.format numbers form);

@@ -10,7 +10,7 @@ use Rattle.wb_tool.specs.Run.{Run, Lent}
 use Rattle.wb_tool.specs.Opening.{EndsByLog, EndsByIds, EndsByBacking}
 use Rattle.wb_tool.specs.Serve.{IsUnbegun, IsBrokenOff, EndsByFault, IsStopped, IsOpened, IsUnserved, HasIds, IsLeftFrom, ServeAccount}
 use Rattle.wb_tool.specs.Stages.{Leaves, EndsServing, EndsReading}
-use Rattle.wb_tool.proofs.Moved.{super_before, refuses_before, may_before, stray_before, synced_before, cut_before, served_before}
+use Rattle.wb_tool.proofs.Moved.{super_before, refuses_before, may_before, stray_before, synced_before, earlier, cut_before, served_before}
 
 unopened_before : (sink : Lent) (old mid : State) (sectors status : ℕ) → OnlyRead old mid
     → EndsByLog sink mid status ⊎ ((found : Super) × IsSuper mid found × EndsByIds found sink status)
@@ -24,9 +24,9 @@ unopened_before sink old mid sectors status read (inr (inr small)) = inr (inr (s
 
 -- the same run, from an earlier log on
 abbrev Earlier : State → Run → Run
-Earlier old run = record run { log_before = old }
+Earlier old run = record run { before = earlier old run.before }
 
-unbegun_before : (old : State) (run : Run) → OnlyRead old run.log_before → IsUnbegun run → IsUnbegun (Earlier old run)
+unbegun_before : (old : State) (run : Run) → OnlyRead old run.before.log → IsUnbegun run → IsUnbegun (Earlier old run)
 unbegun_before old run read unbegun =
     let none = unbegun.no_session in record {
       no_session = record { transcripts = none.transcripts; places = none.places };
@@ -34,42 +34,42 @@ unbegun_before old run read unbegun =
       log = reads_only read unbegun.log;
     }
 
-broken_before : (old : State) (run : Run) → OnlyRead old run.log_before → IsBrokenOff run → IsBrokenOff (Earlier old run)
+broken_before : (old : State) (run : Run) → OnlyRead old run.before.log → IsBrokenOff run → IsBrokenOff (Earlier old run)
 broken_before old run read broken =
     record { no_session = record { transcripts = broken.no_session.transcripts; places = broken.no_session.places }; log = synced_before read broken.log; backing = broken.backing }
 
-fault_before : (device : Which) (status : ℕ) (old : State) (run : Run) → OnlyRead old run.log_before → EndsByFault device status run → EndsByFault device status (Earlier old run)
+fault_before : (device : Which) (status : ℕ) (old : State) (run : Run) → OnlyRead old run.before.log → EndsByFault device status run → EndsByFault device status (Earlier old run)
 fault_before device status old run read fault = record {
   found = fault.found;
-  may = may_before old run.log_before run.backing_before.sectors read fault.found fault.may;
+  may = may_before old run.before.log run.before.backing.sectors read fault.found fault.may;
   ended = fault.ended;
   told = fault.told;
 }
 
-stopped_before : (old : State) (parsed : ℕ) (run : Run) → OnlyRead old run.log_before → IsStopped parsed run → IsStopped parsed (Earlier old run)
+stopped_before : (old : State) (parsed : ℕ) (run : Run) → OnlyRead old run.before.log → IsStopped parsed run → IsStopped parsed (Earlier old run)
 stopped_before old parsed run read (inl stray) = inl (record {
   found = stray.found;
-  may = may_before old run.log_before run.backing_before.sectors read stray.found stray.may;
+  may = may_before old run.before.log run.before.backing.sectors read stray.found stray.may;
   slot = stray.slot;
   id = stray.id;
-  stray = stray_before old run.log_before read stray.found.geometry stray.found.recorded stray.slot stray.id stray.stray;
+  stray = stray_before old run.before.log read stray.found.geometry stray.found.recorded stray.slot stray.id stray.stray;
   ended = stray.ended;
   told = stray.told;
 })
 stopped_before old parsed run read (inr (inl fault)) = inr (inl (fault_before _ 6 old run read fault))
 stopped_before old parsed run read (inr (inr (inl fault))) = inr (inr (inl (fault_before _ 7 old run read fault)))
 stopped_before old parsed run read (inr (inr (inr change))) =
-    inr (inr (inr (record { found = change.found; super = super_before old run.log_before read change.found change.super; fewer = change.fewer; ended = change.ended; told = change.told })))
+    inr (inr (inr (record { found = change.found; super = super_before old run.before.log read change.found change.super; fewer = change.fewer; ended = change.ended; told = change.told })))
 
-serving_before : (old : State) (script : ScriptContent) (run : Run) → OnlyRead old run.log_before → run.log_before.faults ≡ old.faults → EndsServing script run
+serving_before : (old : State) (script : ScriptContent) (run : Run) → OnlyRead old run.before.log → run.before.log.faults ≡ old.faults → EndsServing script run
     → EndsServing script (Earlier old run)
 serving_before old script run read kept (inl (unbegun, unopened)) =
-    inl (unbegun_before old run read unbegun, unopened_before run.sink old run.log_before run.backing_before.sectors run.status read unopened)
+    inl (unbegun_before old run read unbegun, unopened_before run.sink old run.before.log run.before.backing.sectors run.status read unopened)
 serving_before old script run read kept (inr (inl (broken, stopped))) = inr (inl (broken_before old run read broken, stopped_before old script.sectors run read stopped))
 serving_before old script run read kept (inr (inr served)) =
-    inr (inr (served_before script run.sink old run.log_before run.log_after run.backing_before run.backing_after run.status run.transcripts run.places read kept served))
+    inr (inr (served_before script old run read kept served))
 
-reading_before : (old : State) (sectors : ℕ) (run : Run) → OnlyRead old run.log_before → run.log_before.faults ≡ old.faults → EndsReading sectors run
+reading_before : (old : State) (sectors : ℕ) (run : Run) → OnlyRead old run.before.log → run.before.log.faults ≡ old.faults → EndsReading sectors run
     → EndsReading sectors (Earlier old run)
 reading_before old sectors run read kept (inl (unbegun, inl source)) =
     inl (unbegun_before old run read unbegun, inl (record { failed = source.failed; ended = source.ended; told = source.told }))
@@ -96,26 +96,26 @@ reading_before old sectors run read kept (inr scripted) = inr (record {
   ends = serving_before old scripted.script run read kept scripted.ends;
 })
 
-opened : (run : Run) (found : Super) → IsSuper run.log_before found → HasIds found → found.geometry.backing_sectors ≤ run.backing_before.sectors
+opened : (run : Run) (found : Super) → IsSuper run.before.log found → HasIds found → found.geometry.backing_sectors ≤ run.before.backing.sectors
     → (run.status ≡ 1) ⊎ EndsReading found.geometry.backing_sectors run → (run.status ≡ 1) ⊎ IsUnserved run ⊎ IsOpened run
 opened run found super ids room (inl one) = inl one
 opened run found super ids room (inr ends) = inr (inr (record { found = found; super = super; ids = ids; room = room; ends = ends }))
 
-ends_before : (old : State) (sectors : ℕ) (run : Run) → OnlyRead old run.log_before → run.log_before.faults ≡ old.faults
+ends_before : (old : State) (sectors : ℕ) (run : Run) → OnlyRead old run.before.log → run.before.log.faults ≡ old.faults
     → (run.status ≡ 1) ⊎ EndsReading sectors run → (run.status ≡ 1) ⊎ EndsReading sectors (Earlier old run)
 ends_before old sectors run read kept (inl one) = inl one
 ends_before old sectors run read kept (inr ends) = inr (reading_before old sectors run read kept ends)
 
 -- want of memory behind that reading
-left_before : (old : State) (sectors : ℕ) (run : Run) → OnlyRead old run.log_before → run.log_before.faults ≡ old.faults → IsLeftFrom sectors run → IsLeftFrom sectors (Earlier old run)
+left_before : (old : State) (sectors : ℕ) (run : Run) → OnlyRead old run.before.log → run.before.log.faults ≡ old.faults → IsLeftFrom sectors run → IsLeftFrom sectors (Earlier old run)
 left_before old sectors run read kept (inl (log, backing)) = inl (reads_only read log, backing)
 left_before old sectors run read kept (inr (script, spelled, inl (log, backing))) = inr (script, spelled, inl (synced_before read log, backing))
 left_before old sectors run read kept (inr (script, spelled, inr (found, cut))) =
-    inr (script, spelled, inr (found, cut_before old run.log_before run.log_after run.backing_before run.backing_after found script read kept cut))
+    inr (script, spelled, inr (found, cut_before old run.before run.after found script read kept cut))
 
 -- a log whose superblock is good was read, and then the source
-pub serve_account : (old : State) (run : Run) (found : Super) → OnlyRead old run.log_before → run.log_before.faults ≡ old.faults → IsSuper old found → HasIds found
-    → found.geometry.backing_sectors ≤ run.backing_before.sectors → Leaves (EndsReading found.geometry.backing_sectors) (IsLeftFrom found.geometry.backing_sectors) run → ServeAccount (Earlier old run)
+pub serve_account : (old : State) (run : Run) (found : Super) → OnlyRead old run.before.log → run.before.log.faults ≡ old.faults → IsSuper old found → HasIds found
+    → found.geometry.backing_sectors ≤ run.before.backing.sectors → Leaves (EndsReading found.geometry.backing_sectors) (IsLeftFrom found.geometry.backing_sectors) run → ServeAccount (Earlier old run)
 serve_account old run found read kept super ids room leaves = record {
   log_faults = rw kept at leaves.log_faults;
   backing_faults = leaves.backing_faults;

@@ -11,11 +11,10 @@ use Rattle.wb_super.specs.declared.reading.Super.{Super}
 use Rattle.wb_super.specs.declared.reading.SuperRefused.{SuperRefused}
 use Rattle.wb_super.specs.declared.reading.SuperRefused.TheVariants as refused
 use Rattle.wb_script.specs.Content.{ScriptContent}
-use Rattle.wb_script.specs.declared.transcript.Line.{Line}
 use Rattle.wb_engine.specs.Opening.{MayOpen, HasNoStray, RefusesSlots, IsOnlySynced}
 use Rattle.wb_engine.specs.declared.opening.OpenCause.TheVariants.{Stray}
-use Rattle.wb_serve.specs.Session.{IsSession, IsCutShort}
-use Rattle.wb_tool.specs.Run.{Lent}
+use Rattle.wb_serve.specs.Session.{Devices, Report, IsSession, IsCutShort}
+use Rattle.wb_tool.specs.Run.{Run}
 use Rattle.wb_tool.specs.Served.{Served}
 
 -- the superblock
@@ -68,12 +67,15 @@ synced_before read synced = record {
 
 -- a session
 
-session_before : (old mid after backing_before backing_after : State) (found : Super) (script : ScriptContent) (transcripts : List (List Line)) (taken : ℕ) (ids log_failed backing_failed : Bool)
-    → OnlyRead old mid → mid.faults ≡ old.faults → IsSession found script mid after backing_before backing_after transcripts taken ids log_failed backing_failed
-    → IsSession found script old after backing_before backing_after transcripts taken ids log_failed backing_failed
-session_before old mid after backing_before backing_after found script transcripts taken ids log_failed backing_failed read kept session = record {
-  opened = may_before old mid backing_before.sectors read found session.opened;
-  no_stray = no_stray_before old mid read found.geometry found.recorded session.no_stray;
+-- the devices before, of which the log was read since
+abbrev pub earlier : State → Devices → Devices
+earlier old mid = record { log = old; backing = mid.backing }
+
+session_before : (old : State) (mid after : Devices) (found : Super) (script : ScriptContent) (report : Report) → OnlyRead old mid.log → mid.log.faults ≡ old.faults
+    → IsSession found script mid after report → IsSession found script (earlier old mid) after report
+session_before old mid after found script report read kept session = record {
+  opened = may_before old mid.log mid.backing.sectors read found session.opened;
+  no_stray = no_stray_before old mid.log read found.geometry found.recorded session.no_stray;
   fits = session.fits;
   history = session.history;
   printed = session.printed;
@@ -95,27 +97,22 @@ session_before old mid after backing_before backing_after found script transcrip
   backing_cause = session.backing_cause;
 }
 
-pub cut_before : (old mid after backing_before backing_after : State) (found : Super) (script : ScriptContent) → OnlyRead old mid → mid.faults ≡ old.faults
-    → IsCutShort found script mid after backing_before backing_after → IsCutShort found script old after backing_before backing_after
-cut_before old mid after backing_before backing_after found script read kept short = record {
+pub cut_before : (old : State) (mid after : Devices) (found : Super) (script : ScriptContent) → OnlyRead old mid.log → mid.log.faults ≡ old.faults → IsCutShort found script mid after
+    → IsCutShort found script (earlier old mid) after
+cut_before old mid after found script read kept short = record {
   answered = short.answered;
   cut = short.cut;
-  transcripts = short.transcripts;
-  taken = short.taken;
-  ids = short.ids;
-  log_failed = short.log_failed;
-  backing_failed = short.backing_failed;
-  session = session_before old mid after backing_before backing_after found (record script { requests = short.answered }) short.transcripts short.taken short.ids short.log_failed short.backing_failed read kept short.session;
+  report = short.report;
+  session = session_before old mid after found (record script { requests = short.answered }) short.report read kept short.session;
 }
 
-pub served_before : (script : ScriptContent) (sink : Lent) (old mid after backing_before backing_after : State) (status : ℕ) (transcripts : List (List Line)) (places : ℕ)
-    → OnlyRead old mid → mid.faults ≡ old.faults → Served script sink mid after backing_before backing_after status transcripts places
-    → Served script sink old after backing_before backing_after status transcripts places
-served_before script sink old mid after backing_before backing_after status transcripts places read kept served = record {
+pub served_before : (script : ScriptContent) (old : State) (run : Run) → OnlyRead old run.before.log → run.before.log.faults ≡ old.faults → Served script run
+    → Served script (record run { before = earlier old run.before })
+served_before script old run read kept served = record {
   found = served.found;
   ids = served.ids;
   log_failed = served.log_failed;
   backing_failed = served.backing_failed;
-  session = session_before old mid after backing_before backing_after served.found script transcripts places served.ids served.log_failed served.backing_failed read kept served.session;
+  session = session_before old run.before run.after served.found script _ read kept served.session;
   ends = served.ends;
 }

@@ -1,13 +1,12 @@
 -- How the last stage of `serve` ends with a session.
 use Rattle.std.proofs.Common.{◌≡◌, ◌≢◌, ◌⊎◌, List, ℕ, Bool, true, false, sym, ◌∙◌, arith, inl, inr}
-use Rattle.wb_geometry.specs.Device.{State, CountsFaultsWhere}
+use Rattle.wb_geometry.specs.Device.{CountsFaultsWhere}
 use Rattle.wb_super.specs.declared.reading.Super.{Super}
 use Rattle.wb_script.specs.Content.{ScriptContent}
 use Rattle.wb_script.specs.Output.{session_text}
-use Rattle.wb_script.specs.declared.transcript.Line.{Line}
-use Rattle.wb_serve.specs.Session.{IsSession}
+use Rattle.wb_serve.specs.Session.{Report, IsSession}
 use Rattle.wb_serve.proofs.Servings.{cut_nowhere}
-use Rattle.wb_tool.specs.Run.{Lent, run_of, no_source, EndsTelling}
+use Rattle.wb_tool.specs.Run.{Lent, Run, EndsTelling}
 use Rattle.wb_tool.specs.Served.{EndsSession}
 use Rattle.wb_tool.specs.Serve.{IsLeftBy}
 use Rattle.wb_tool.specs.Stages.{Leaves, EndsServing}
@@ -56,24 +55,25 @@ backing_is_7 sink status text places ids log_failed backing_failed some other (i
 backing_is_7 sink status text places ids log_failed backing_failed some other (inr (inr (inr (inl (fine, spent, ten, took))))) is = apart backing_failed (status ≡ 7) is fine.1
 backing_is_7 sink status text places ids log_failed backing_failed some other (inr (inr (inr (inr (fine, left, telling))))) is = apart backing_failed (status ≡ 7) is fine.1
 
-session_ends : (script : ScriptContent) (sink : Lent) (log_before log_after backing_before backing_after : State) (status : ℕ) (transcripts : List (List Line)) (places : ℕ) (found : Super) (ids log_failed backing_failed : Bool)
-    → IsSession found script log_before log_after backing_before backing_after transcripts places ids log_failed backing_failed
-    → (status ≡ 1) ⊎ EndsSession sink status (session_text script transcripts places) places ids log_failed backing_failed
-    → (status ≡ 1) ⊎ EndsServing script (run_of no_source sink log_before log_after backing_before backing_after status transcripts places)
-session_ends script sink log_before log_after backing_before backing_after status transcripts places found ids log_failed backing_failed session (inl one) = inl one
-session_ends script sink log_before log_after backing_before backing_after status transcripts places found ids log_failed backing_failed session (inr ends) =
-    inr (inr (inr (record { found = found; ids = ids; log_failed = log_failed; backing_failed = backing_failed; session = session; ends = ends })))
+module _ (script : ScriptContent) (run : Run) (found : Super) (ids log_failed backing_failed : Bool) where
+  abbrev told : Report
+  told = record { transcripts = run.transcripts; taken = run.places; ids = ids; log_failed = log_failed; backing_failed = backing_failed }
 
-pub session_leaves : (script : ScriptContent) (sink : Lent) (log_before log_after backing_before backing_after : State) (status : ℕ) (transcripts : List (List Line)) (places : ℕ) (found : Super) (ids log_failed backing_failed : Bool)
-    → IsSession found script log_before log_after backing_before backing_after transcripts places ids log_failed backing_failed
-    → (status ≡ 1) ⊎ EndsSession sink status (session_text script transcripts places) places ids log_failed backing_failed
-    → Leaves (EndsServing script) (IsLeftBy script) (run_of no_source sink log_before log_after backing_before backing_after status transcripts places)
-session_leaves script sink log_before log_after backing_before backing_after status transcripts places found ids log_failed backing_failed session ends =
-    let text : List ℕ = session_text script transcripts places in record {
-      log_faults = λ some. counts_same (log_failed ≡ true) (status ≡ 6) log_before.faults log_after.faults
-          (log_is_6 sink status text places ids log_failed backing_failed some ends) (log_at_6 sink status text places ids log_failed backing_failed ends) session.log_cause;
-      backing_faults = λ some other. counts_same (backing_failed ≡ true) (status ≡ 7) backing_before.faults backing_after.faults
-          (backing_is_7 sink status text places ids log_failed backing_failed some other ends) (backing_at_7 sink status text places ids log_failed backing_failed ends) session.backing_cause;
-      wanting = λ is. inr (found, cut_nowhere session);
-      ends = session_ends script sink log_before log_after backing_before backing_after status transcripts places found ids log_failed backing_failed session ends;
-    }
+  abbrev text : List ℕ
+  text = session_text script run.transcripts run.places
+
+  session_ends : IsSession found script run.before run.after told → (run.status ≡ 1) ⊎ EndsSession run.sink run.status text run.places ids log_failed backing_failed
+      → (run.status ≡ 1) ⊎ EndsServing script run
+  session_ends session (inl one) = inl one
+  session_ends session (inr ends) = inr (inr (inr (record { found = found; ids = ids; log_failed = log_failed; backing_failed = backing_failed; session = session; ends = ends })))
+
+  pub session_leaves : IsSession found script run.before run.after told → (run.status ≡ 1) ⊎ EndsSession run.sink run.status text run.places ids log_failed backing_failed
+      → Leaves (EndsServing script) (IsLeftBy script) run
+  session_leaves session ends = record {
+    log_faults = λ some. counts_same (log_failed ≡ true) (run.status ≡ 6) run.before.log.faults run.after.log.faults
+        (log_is_6 run.sink run.status text run.places ids log_failed backing_failed some ends) (log_at_6 run.sink run.status text run.places ids log_failed backing_failed ends) session.log_cause;
+    backing_faults = λ some other. counts_same (backing_failed ≡ true) (run.status ≡ 7) run.before.backing.faults run.after.backing.faults
+        (backing_is_7 run.sink run.status text run.places ids log_failed backing_failed some other ends) (backing_at_7 run.sink run.status text run.places ids log_failed backing_failed ends) session.backing_cause;
+    wanting = λ is. inr (found, cut_nowhere session);
+    ends = session_ends session ends;
+  }

@@ -77,7 +77,8 @@ serving_beside script source sink log_before log_after backing_before backing_af
     stopped_beside (inr (inl fault)) = inr (inl (fault_beside _ 6 fault))
     stopped_beside (inr (inr (inl fault))) = inr (inr (inl (fault_beside _ 7 fault)))
     stopped_beside (inr (inr (inr change))) = inr (inr (inr (record { found = change.found; super = change.super; fewer = change.fewer; ended = change.ended; told = change.told })))
-serving_beside script source sink log_before log_after backing_before backing_after status transcripts places (inr (inr served)) = inr (inr served)
+serving_beside script source sink log_before log_after backing_before backing_after status transcripts places (inr (inr served)) =
+    inr (inr (record { found = served.found; ids = served.ids; log_failed = served.log_failed; backing_failed = served.backing_failed; session = served.session; ends = served.ends }))
 
 scripted_ends : (sectors : ℕ) (script : ScriptContent) (source sink : Lent) (log_before log_after backing_before backing_after : State) (status : ℕ) (transcripts : List (List Line)) (places : ℕ)
     → HasNotFailed source → Spells sectors source script → IsAtEnd source.after

@@ -6,7 +6,7 @@ use Rattle.wb_super.specs.declared.reading.SuperRefused.{SuperRefused}
 use Rattle.wb_super.specs.declared.reading.SuperRefused.TheVariants as refused
 use Rattle.wb_script.specs.Content.{ScriptContent}
 use Rattle.wb_engine.specs.declared.opening.OpenCause.TheVariants as opening
-use Rattle.wb_serve.specs.Session.{IsUntouched, IsUnserved, SaysLogFault, SaysBackingFault}
+use Rattle.wb_serve.specs.Session.{devices, IsUntouched, IsUnserved, SaysLogFault, SaysBackingFault}
 use Rattle.wb_serve.specs.declared.serving.Session.{Session}
 use Rattle.wb_serve.specs.declared.serving.ServeStop.{ServeStop}
 use Rattle.wb_serve.specs.declared.serving.ServeStop.TheVariants as stop
@@ -43,14 +43,14 @@ super_at_6 (refused.Record found) six = absurd (omega arith)
 -- A cause that has a status of its own. The faults are counted of the log where this is 6, and of the backing device where
 -- it is 7.
 told_leaves : (Ends Wants : Run → Type 0) (run : Run) (known : ℕ) (LogFailed BackingFailed P : Type 0)
-    → CountsFaultsWhere LogFailed run.log_before.faults run.log_after.faults → CountsFaultsWhere BackingFailed run.backing_before.faults run.backing_after.faults
+    → CountsFaultsWhere LogFailed run.before.log.faults run.after.log.faults → CountsFaultsWhere BackingFailed run.before.backing.faults run.after.backing.faults
     → (LogFailed → known ≡ 6) → (known ≡ 6 → LogFailed) → (BackingFailed → known ≡ 7) → (known ≡ 7 → BackingFailed)
     → Wants run → (run.status ≡ 1) ⊎ ((run.status ≡ known) × P) → (run.status ≡ known → P → Ends run) → Leaves Ends Wants run
 told_leaves Ends Wants run known LogFailed BackingFailed P log backing to_6 from_6 to_7 from_7 wants (inl one) ends =
     record { log_faults = λ some. absurd (some one); backing_faults = λ some. absurd (some one); wanting = λ is. wants; ends = inl one }
 told_leaves Ends Wants run known LogFailed BackingFailed P log backing to_6 from_6 to_7 from_7 wants (inr (ended, told)) ends = record {
-  log_faults = λ some. counts_same LogFailed (run.status ≡ 6) run.log_before.faults run.log_after.faults (λ failed. ended ∙ to_6 failed) (λ six. from_6 (sym ended ∙ six)) log;
-  backing_faults = λ some other. counts_same BackingFailed (run.status ≡ 7) run.backing_before.faults run.backing_after.faults (λ failed. ended ∙ to_7 failed) (λ seven. from_7 (sym ended ∙ seven)) backing;
+  log_faults = λ some. counts_same LogFailed (run.status ≡ 6) run.before.log.faults run.after.log.faults (λ failed. ended ∙ to_6 failed) (λ six. from_6 (sym ended ∙ six)) log;
+  backing_faults = λ some other. counts_same BackingFailed (run.status ≡ 7) run.before.backing.faults run.after.backing.faults (λ failed. ended ∙ to_7 failed) (λ seven. from_7 (sym ended ∙ seven)) backing;
   wanting = λ is. wants;
   ends = inr (ends ended told);
 }
@@ -79,12 +79,12 @@ quiet_stop script sink log_before log_after backing_before backing_after status 
     (counts.log other) (counts.backing other) (λ failed. absurd (no_log_fault why not_super not_log failed)) (λ six. absurd (not_6 six)) (λ failed. absurd (not_backing failed)) (λ seven. absurd (not_7 seven)) left told ends
 
 -- a cause before either device is synced, and one behind that
-early_run : (early : Type 0) (sink : Lent) (log_before log_after backing_before backing_after : State) (status : ℕ) → early → IsUntouched early log_before log_after backing_before backing_after
+early_run : (early : Type 0) (sink : Lent) (log_before log_after backing_before backing_after : State) (status : ℕ) → early → IsUntouched early (devices log_before backing_before) (devices log_after backing_after)
     → IsUnbegun (Unserved sink log_before log_after backing_before backing_after status)
 early_run early sink log_before log_after backing_before backing_after status is untouched =
     record { no_session = record { transcripts = refl; places = refl }; backing = untouched.early_backing is; log = untouched.early_log is }
 
-late_run : (early : Type 0) (sink : Lent) (log_before log_after backing_before backing_after : State) (status : ℕ) → IsUntouched early log_before log_after backing_before backing_after
+late_run : (early : Type 0) (sink : Lent) (log_before log_after backing_before backing_after : State) (status : ℕ) → IsUntouched early (devices log_before backing_before) (devices log_after backing_after)
     → IsBrokenOff (Unserved sink log_before log_after backing_before backing_after status)
 late_run early sink log_before log_after backing_before backing_after status untouched =
     record { no_session = record { transcripts = refl; places = refl }; log = untouched.log; backing = untouched.backing }
@@ -110,7 +110,7 @@ super_leaves script sink log_before log_after backing_before backing_after statu
     left told (λ ended took. inl (unbegun, inl (record { cause = cause; why = why; ended = ended; told = took })))
 
 stopped_leaves : (script : ScriptContent) (sink : Lent) (log_before log_after backing_before backing_after : State) (status : ℕ) (why : ServeStop)
-    → CountsStop log_before log_after backing_before backing_after why → IsUnserved script log_before log_after backing_before backing_after why → EndsUnserved why sink status
+    → CountsStop log_before log_after backing_before backing_after why → IsUnserved script (devices log_before backing_before) (devices log_after backing_after) why → EndsUnserved why sink status
     → Leaves (EndsServing script) (IsLeftBy script) (Unserved sink log_before log_after backing_before backing_after status)
 stopped_leaves script sink log_before log_after backing_before backing_after status (stop.Open (opening.Super cause)) counts (inl memory) told = cc
 stopped_leaves script sink log_before log_after backing_before backing_after status (stop.Open (opening.Super cause)) counts (inr (why, untouched)) told =
@@ -202,7 +202,7 @@ not_memory : (answer : Result Session ServeStop) (why : ServeStop) → answer �
 not_memory answer why is other e = other (let same : Err why ≡ Err (stop.Open opening.Memory) = sym is ∙ e in cc)
 
 pub unserved_leaves : (script : ScriptContent) (sink : Lent) (log_before log_after backing_before backing_after : State) (status : ℕ) (why : ServeStop) (answer : Result Session ServeStop)
-    → answer ≡ Err why → IsUnserved script log_before log_after backing_before backing_after why → EndsUnserved why sink status
+    → answer ≡ Err why → IsUnserved script (devices log_before backing_before) (devices log_after backing_after) why → EndsUnserved why sink status
     → (answer ≢ Err (stop.Open opening.Memory) → CountsFaultsWhere (SaysLogFault answer) log_before.faults log_after.faults)
     → (answer ≢ Err (stop.Open opening.Memory) → CountsFaultsWhere (SaysBackingFault answer) backing_before.faults backing_after.faults)
     → Leaves (EndsServing script) (IsLeftBy script) (Unserved sink log_before log_after backing_before backing_after status)

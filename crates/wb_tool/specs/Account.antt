@@ -25,7 +25,7 @@ pub record UsageAccount (run : Run) : Type 0 where
   pub no_session : NoSession run
   pub backing : BackingIsUncalled run
   pub unread : IsUntouched run.source
-  pub log : IsUncalled run.log_before run.log_after
+  pub log : IsUncalled run.before.log run.after.log
 
 -- what a run answers for: its words are of one of four forms, or of none
 pub record IsAccounted (words : List (List ℕ)) (run : Run) : Type 0 where
@@ -38,7 +38,7 @@ pub record IsAccounted (words : List (List ℕ)) (run : Run) : Type 0 where
 -- the log device tells that it is formatted for this geometry, with a record that is taken
 pub record TellsFormatted (run : Run) (g : Geometry) : Type 0 where
   pub image : Image
-  pub told : run.log_before.content ≡ Some image
+  pub told : run.before.log.content ≡ Some image
   pub text : SuperText image g 1
   pub bounded : record_of image ≤ most_record
 
@@ -75,8 +75,8 @@ Succeeds run = (run.status ≡ 0) ⊎ (run.status ≡ 1)
 -- a run over good devices, with a good script where one is read, succeeds but for want of memory
 pub record IsComplete (words : List (List ℕ)) (run : Run) : Type 0 where
   pub serve : IsServe words → NoFault run → (g : Geometry) → (formatted : TellsFormatted run g) → IsTidy g formatted.image → LeavesIds g formatted.image
-      → g.backing_sectors ≤ run.backing_before.sectors → IsScripted run g → Succeeds run
-  pub format : (numbers : Numbers) → IsFormat numbers words → NoLogFault run → 8 ≤ run.backing_before.sectors
-      → (g : Geometry) → Asks numbers run.backing_before.sectors g → log_sectors g ≤ run.log_before.sectors → Succeeds run
+      → g.backing_sectors ≤ run.before.backing.sectors → IsScripted run g → Succeeds run
+  pub format : (numbers : Numbers) → IsFormat numbers words → NoLogFault run → 8 ≤ run.before.backing.sectors
+      → (g : Geometry) → Asks numbers run.before.backing.sectors g → log_sectors g ≤ run.before.log.sectors → Succeeds run
   pub inspect : IsInspect words → NoLogFault run → (g : Geometry) → TellsFormatted run g → Succeeds run
   pub slot : (slot : ℕ) → IsInspectSlot slot words → NoLogFault run → (g : Geometry) → TellsFormatted run g → slot < g.slots → Succeeds run

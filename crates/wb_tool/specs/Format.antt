@@ -59,4 +59,4 @@ pub record FormatAccount (numbers : Numbers) (run : Run) : Type 0 where
   pub no_session : NoSession run
   pub backing : BackingIsUncalled run
   pub unread : IsUntouched run.source
-  pub ends : FormatEnds numbers run.backing_before.sectors run.sink run.log_before run.log_after run.status
+  pub ends : FormatEnds numbers run.before.backing.sectors run.sink run.before.log run.after.log run.status

@@ -23,4 +23,4 @@ pub record InspectAccount (run : Run) : Type 0 where
   pub no_session : NoSession run
   pub backing : BackingIsUncalled run
   pub unread : IsUntouched run.source
-  pub ends : InspectEnds run.sink run.log_before run.log_after run.status
+  pub ends : InspectEnds run.sink run.before.log run.after.log run.status

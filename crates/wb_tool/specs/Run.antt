@@ -7,6 +7,7 @@ use Rattle.wb_script.specs.Content.{ScriptContent}
 use Rattle.wb_script.specs.Grammar.{most_bytes, IsTheScript, IsTheRefusal}
 use Rattle.wb_script.specs.declared.refusal.Cause.{Cause}
 use Rattle.wb_script.specs.declared.transcript.Line.{Line}
+use Rattle.wb_serve.specs.Session.{Devices, devices}
 
 -- a source or a sink that a run is lent: the bytes that it told, and how often it had failed, at entry and at exit
 pub record Lent : Type 0 where
@@ -35,10 +36,8 @@ pub record IsUntouched (object : Lent) : Type 0 where
 pub record Run : Type 1 where
   pub source : Lent
   pub sink : Lent
-  pub log_before : State
-  pub log_after : State
-  pub backing_before : State
-  pub backing_after : State
+  pub before : Devices
+  pub after : Devices
   pub status : ℕ
   pub transcripts : List (List Line)
   pub places : ℕ
@@ -48,10 +47,8 @@ abbrev pub run_of : (source sink : Lent) → (log_before log_after backing_befor
 run_of source sink log_before log_after backing_before backing_after status transcripts places = record {
   source = source;
   sink = sink;
-  log_before = log_before;
-  log_after = log_after;
-  backing_before = backing_before;
-  backing_after = backing_after;
+  before = devices log_before backing_before;
+  after = devices log_after backing_after;
   status = status;
   transcripts = transcripts;
   places = places;
@@ -62,13 +59,13 @@ abbrev pub no_source : Lent
 no_source = lent None None 0 0
 
 abbrev pub LogHasFailed : Run → Type 0
-LogHasFailed run = Rose run.log_before.faults run.log_after.faults
+LogHasFailed run = Rose run.before.log.faults run.after.log.faults
 
 abbrev pub BackingHasFailed : Run → Type 0
-BackingHasFailed run = Rose run.backing_before.faults run.backing_after.faults
+BackingHasFailed run = Rose run.before.backing.faults run.after.backing.faults
 
 abbrev pub BackingHasNotFailed : Run → Type 0
-BackingHasNotFailed run = run.backing_after.faults ≡ run.backing_before.faults
+BackingHasNotFailed run = run.after.backing.faults ≡ run.before.backing.faults
 
 -- no session began: there is no transcript and no place
 pub record NoSession (run : Run) : Type 0 where
@@ -77,7 +74,7 @@ pub record NoSession (run : Run) : Type 0 where
 
 -- the backing device wasn't called
 abbrev pub BackingIsUncalled : Run → Type 0
-BackingIsUncalled run = IsUncalled run.backing_before run.backing_after
+BackingIsUncalled run = IsUncalled run.before.backing run.after.backing
 
 -- the sectors that can be served of a backing device of so many: whole blocks of eight, and 2 ^ 40 sectors at most
 abbrev pub usable : ℕ → ℕ

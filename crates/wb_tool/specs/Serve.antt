@@ -25,32 +25,32 @@ HasIds found = found.recorded ≤ most_recorded found.geometry.slots
 -- smaller than it says.
 abbrev pub IsUnopened : Run → Type 0
 IsUnopened run =
-    EndsByLog run.sink run.log_before run.status
-    ⊎ ((found : Super) × IsSuper run.log_before found × EndsByIds found run.sink run.status)
-    ⊎ ((found : Super) × IsSuper run.log_before found × HasIds found × EndsByBacking found.geometry.backing_sectors run.backing_before.sectors run.sink run.status)
+    EndsByLog run.sink run.before.log run.status
+    ⊎ ((found : Super) × IsSuper run.before.log found × EndsByIds found run.sink run.status)
+    ⊎ ((found : Super) × IsSuper run.before.log found × HasIds found × EndsByBacking found.geometry.backing_sectors run.before.backing.sectors run.sink run.status)
 
 -- no session began, and nothing was done with the devices but that the log was read
 pub record IsUnbegun (run : Run) : Type 0 where
   pub no_session : NoSession run
   pub backing : BackingIsUncalled run
-  pub log : OnlyRead run.log_before run.log_after
+  pub log : OnlyRead run.before.log run.after.log
 
 -- no session began, as the cache was opened: both devices were synced at most, and the log was read
 pub record IsBrokenOff (run : Run) : Type 0 where
   pub no_session : NoSession run
-  pub log : IsOnlySynced run.log_before run.log_after
-  pub backing : IsOnlySynced run.backing_before run.backing_after
+  pub log : IsOnlySynced run.before.log run.after.log
+  pub backing : IsOnlySynced run.before.backing run.after.backing
 
 -- What a run that ended for want of memory left of the devices, where the source held this script: they were read and synced
 -- at most, or are as a session of the first requests of each client leaves them.
 abbrev pub IsLeftBy : ScriptContent → Run → Type 0
 IsLeftBy script run =
-    (IsOnlySynced run.log_before run.log_after × IsOnlySynced run.backing_before run.backing_after)
-    ⊎ ((found : Super) × IsCutShort found script run.log_before run.log_after run.backing_before run.backing_after)
+    (IsOnlySynced run.before.log run.after.log × IsOnlySynced run.before.backing run.after.backing)
+    ⊎ ((found : Super) × IsCutShort found script run.before run.after)
 
 -- before a script is found nothing is done with the devices but that the log is read
 abbrev pub OnlyLogRead : Run → Type 0
-OnlyLogRead run = OnlyRead run.log_before run.log_after × BackingIsUncalled run
+OnlyLogRead run = OnlyRead run.before.log run.after.log × BackingIsUncalled run
 
 -- the same of a run from the source on
 abbrev pub IsLeftFrom : (sectors : ℕ) → Run → Type 0
@@ -59,24 +59,24 @@ IsLeftFrom sectors run = OnlyLogRead run ⊎ ((script : ScriptContent) × Spells
 -- a slot of the log has an id above the record, and it is the first that has
 pub record EndsByStray (run : Run) : Type 0 where
   pub found : Super
-  pub may : MayOpen run.log_before run.backing_before.sectors found
+  pub may : MayOpen run.before.log run.before.backing.sectors found
   pub slot : ℕ
   pub id : ℕ
-  pub stray : RefusesSlots found.geometry found.recorded run.log_before (Stray slot id)
+  pub stray : RefusesSlots found.geometry found.recorded run.before.log (Stray slot id)
   pub ended : run.status ≡ 8
   pub told : Took run.sink (stray_line slot id)
 
 -- the device failed as the cache was opened
 pub record EndsByFault (device : Which) (status : ℕ) (run : Run) : Type 0 where
   pub found : Super
-  pub may : MayOpen run.log_before run.backing_before.sectors found
+  pub may : MayOpen run.before.log run.before.backing.sectors found
   pub ended : run.status ≡ status
   pub told : Took run.sink (failed_line device)
 
 -- the cache has fewer backing sectors than the script was made for
 pub record EndsByChange (parsed : ℕ) (run : Run) : Type 0 where
   pub found : Super
-  pub super : IsSuper run.log_before found
+  pub super : IsSuper run.before.log found
   pub fewer : found.geometry.backing_sectors < parsed
   pub ended : run.status ≡ 8
   pub told : Took run.sink (changed_line parsed found.geometry.backing_sectors)
@@ -117,20 +117,20 @@ pub record IsScripted (sectors : ℕ) (run : Run) : Type 0 where
   pub spelled : Spells sectors run.source script
   pub at_end : IsAtEnd run.source.after
   pub ends : (IsUnbegun run × IsUnopened run) ⊎ (IsBrokenOff run × IsStopped script.sectors run)
-      ⊎ Served script run.sink run.log_before run.log_after run.backing_before run.backing_after run.status run.transcripts run.places
+      ⊎ Served script run
 
 -- both devices are good, and ids are left: a script is read, and served where it is good
 pub record IsOpened (run : Run) : Type 0 where
   pub found : Super
-  pub super : IsSuper run.log_before found
+  pub super : IsSuper run.before.log found
   pub ids : HasIds found
-  pub room : found.geometry.backing_sectors ≤ run.backing_before.sectors
+  pub room : found.geometry.backing_sectors ≤ run.before.backing.sectors
   pub ends : (IsUnbegun run × (EndsBySource run ⊎ EndsByScript found.geometry.backing_sectors run)) ⊎ IsScripted found.geometry.backing_sectors run
 
 -- Where memory was wanting, at status 1, only the devices are spoken of; else the faults of the log rose exactly at status 6,
 -- those of the backing device exactly at 7, but for 6, and the run ended at one of the stages.
 pub record ServeAccount (run : Run) : Type 0 where
-  pub log_faults : run.status ≢ 1 → CountsFaultsWhere (run.status ≡ 6) run.log_before.faults run.log_after.faults
-  pub backing_faults : run.status ≢ 1 → run.status ≢ 6 → CountsFaultsWhere (run.status ≡ 7) run.backing_before.faults run.backing_after.faults
-  pub wanting : run.status ≡ 1 → OnlyLogRead run ⊎ ((found : Super) × IsSuper run.log_before found × IsLeftFrom found.geometry.backing_sectors run)
+  pub log_faults : run.status ≢ 1 → CountsFaultsWhere (run.status ≡ 6) run.before.log.faults run.after.log.faults
+  pub backing_faults : run.status ≢ 1 → run.status ≢ 6 → CountsFaultsWhere (run.status ≡ 7) run.before.backing.faults run.after.backing.faults
+  pub wanting : run.status ≡ 1 → OnlyLogRead run ⊎ ((found : Super) × IsSuper run.before.log found × IsLeftFrom found.geometry.backing_sectors run)
   pub ends : (run.status ≡ 1) ⊎ IsUnserved run ⊎ IsOpened run

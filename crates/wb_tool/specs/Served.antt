@@ -1,13 +1,11 @@
 -- What a session leaves, and how it ends.
 use Rattle.std.specs.Prelude.{ℕ, ◌≡◌, ◌⊎◌, Bool, true, false, List, ◌++◌}
-use Rattle.wb_geometry.specs.Device.{State}
 use Rattle.wb_geometry.specs.declared.which.Which.TheVariants.{Log, Backing}
 use Rattle.wb_super.specs.declared.reading.Super.{Super}
 use Rattle.wb_script.specs.Content.{ScriptContent}
 use Rattle.wb_script.specs.Output.{session_text}
-use Rattle.wb_script.specs.declared.transcript.Line.{Line}
 use Rattle.wb_serve.specs.Session.{IsSession}
-use Rattle.wb_tool.specs.Run.{Lent, Took, EndsTelling}
+use Rattle.wb_tool.specs.Run.{Lent, Run, Took, EndsTelling}
 use Rattle.wb_tool.specs.Texts.{failed_line, spent_line}
 
 -- neither device failed
@@ -23,12 +21,17 @@ EndsSession sink status text places ids log_failed backing_failed =
     ⊎ (IsFine log_failed backing_failed × (ids ≡ true) × (status ≡ 10) × Took sink (text ++ spent_line places))
     ⊎ (IsFine log_failed backing_failed × (ids ≡ false) × EndsTelling sink status text)
 
--- A session of this script over these devices, which began. At the statuses 0, 5 and 10 neither device failed, so the whole
--- history is put.
-pub record Served (script : ScriptContent) (sink : Lent) (log_before log_after backing_before backing_after : State) (status : ℕ) (transcripts : List (List Line)) (places : ℕ) : Type 0 where
+-- A session of this script, which began. At the statuses 0, 5 and 10 neither device failed, so the whole history is put.
+pub record Served (script : ScriptContent) (run : Run) : Type 0 where
   pub found : Super
   pub ids : Bool
   pub log_failed : Bool
   pub backing_failed : Bool
-  pub session : IsSession found script log_before log_after backing_before backing_after transcripts places ids log_failed backing_failed
-  pub ends : EndsSession sink status (session_text script transcripts places) places ids log_failed backing_failed
+  pub session : IsSession found script run.before run.after (record {
+    transcripts = run.transcripts;
+    taken = run.places;
+    ids = ids;
+    log_failed = log_failed;
+    backing_failed = backing_failed;
+  })
+  pub ends : EndsSession run.sink run.status (session_text script run.transcripts run.places) run.places ids log_failed backing_failed

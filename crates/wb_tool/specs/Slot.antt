@@ -44,4 +44,4 @@ pub record SlotAccount (slot : ℕ) (run : Run) : Type 0 where
   pub no_session : NoSession run
   pub backing : BackingIsUncalled run
   pub unread : IsUntouched run.source
-  pub ends : SlotEnds slot run.sink run.log_before run.log_after run.status
+  pub ends : SlotEnds slot run.sink run.before.log run.after.log run.status

@@ -15,15 +15,15 @@ use Rattle.wb_tool.specs.Serve.{IsUnbegun, IsBrokenOff, IsUnopened, IsStopped, E
 -- Where memory was wanting only the devices are spoken of; else the faults of both are told by the status, and the run ended
 -- so.
 pub record Leaves (Ends Wants : Run → Type 0) (run : Run) : Type 0 where
-  pub log_faults : run.status ≢ 1 → CountsFaultsWhere (run.status ≡ 6) run.log_before.faults run.log_after.faults
-  pub backing_faults : run.status ≢ 1 → run.status ≢ 6 → CountsFaultsWhere (run.status ≡ 7) run.backing_before.faults run.backing_after.faults
+  pub log_faults : run.status ≢ 1 → CountsFaultsWhere (run.status ≡ 6) run.before.log.faults run.after.log.faults
+  pub backing_faults : run.status ≢ 1 → run.status ≢ 6 → CountsFaultsWhere (run.status ≡ 7) run.before.backing.faults run.after.backing.faults
   pub wanting : run.status ≡ 1 → Wants run
   pub ends : (run.status ≡ 1) ⊎ Ends run
 
 -- the ends from the session on
 abbrev pub EndsServing : ScriptContent → Run → Type 0
 EndsServing script run = (IsUnbegun run × IsUnopened run) ⊎ (IsBrokenOff run × IsStopped script.sectors run)
-    ⊎ Served script run.sink run.log_before run.log_after run.backing_before run.backing_after run.status run.transcripts run.places
+    ⊎ Served script run
 
 -- the ends from the source on
 abbrev pub EndsReading : (sectors : ℕ) → Run → Type 0

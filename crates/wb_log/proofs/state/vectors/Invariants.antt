@@ -4,7 +4,7 @@ use Rattle.std.specs.Vec.{vec_capacity}
 use Rattle.wb_log.proofs.state.vectors.Given as goal
 
 abbrev pub invariant-loop : goal.invariant-loop
-invariant-loop l = record {
+invariant-loop g l = record {
   count : length l.vectors.items ≡ l.counter;
   rooms : All (λ vector. l.room ≤ vec_capacity vector) l.vectors.items;
   capacity : l.count ≤ vec_capacity l.vectors;

@@ -1,6 +1,6 @@
 -- One more request is played.
-use Rattle.std.proofs.Common.{[], ◌++◌, ◌+◌, ◌∷◌, false, refl}
-use Rattle.wb_serve.proofs.Answering.{at_err, play_none, play_on, play_more}
+use Rattle.std.proofs.Common.{[], ◌++◌, ◌+◌, refl}
+use Rattle.wb_serve.proofs.Answering.{at_err, nothing_played, with_line, play_none, play_on, play_more}
 use Rattle.wb_serve.proofs.playing.play.Goals as goal
 
 pub loop-request-preserved : goal.loop-request-preserved
@@ -16,7 +16,7 @@ loop-request-preserved g c =
 pub returns-in_err-with_capacity-clause-in_part : goal.returns-in_err-with_capacity-clause-in_part
 returns-in_err-with_capacity-clause-in_part g c =
     at_err c.from_residual.result
-    (record { count = 0; lines = []; history = []; ids = false; log_failed = false; backing_failed = false; played = play_none c.args.client c.requires.opened })
+    (record { count = 0; played = nothing_played; history = []; is = play_none c.args.client c.requires.opened })
 
 pub returns-in_err-line-clause-in_part : goal.returns-in_err-line-clause-in_part
 returns-in_err-line-clause-in_part g c =
@@ -24,12 +24,9 @@ returns-in_err-line-clause-in_part g c =
     at_err c.from_residual-in_err-line.result
     (record {
       count = before.request-index;
-      lines = before.played.transcript;
+      played = before.played;
       history = before.invariant.0;
-      ids = before.played.ids;
-      log_failed = before.played.log_failed;
-      backing_failed = before.played.backing_failed;
-      played = play_on c.args.client before.invariant.1 c.in_err-line.ensures.unanswered;
+      is = play_on c.args.client before.invariant.1 c.in_err-line.ensures.unanswered;
     })
 
 pub returns-in_err-push-clause-in_part : goal.returns-in_err-push-clause-in_part
@@ -39,10 +36,7 @@ returns-in_err-push-clause-in_part g c =
     at_err c.from_residual-in_err-push.result
     (record {
       count = before.request-index + 1;
-      lines = before.played.transcript ++ c.in_ok-line.line ∷ [];
+      played = with_line before.played c.in_ok-line.line;
       history = before.invariant.0 ++ answered.entries;
-      ids = _;
-      log_failed = _;
-      backing_failed = _;
-      played = play_more c.args.client c.args.requests.now before.request-index c.request-item.result c.in_ok-line.line c.loop-request-test.true c.request-item.is before.invariant.1 answered refl;
+      is = play_more c.args.client c.args.requests.now before.request-index c.request-item.result c.in_ok-line.line c.loop-request-test.true c.request-item.is before.invariant.1 answered refl;
     })

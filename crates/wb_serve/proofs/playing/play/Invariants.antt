@@ -6,6 +6,4 @@ use Rattle.wb_serve.proofs.playing.play.Given as goal
 
 abbrev pub invariant-loop-request : goal.invariant-loop-request
 invariant-loop-request g l = (history : List HistoryEntry)
-    × IsPlayed l.client (take l.request-index l.requests) (g.L.Device.state l.fn.engine.log) (g.L.Device.state l.engine.log)
-    (g.B.Device.state l.fn.engine.backing) (g.B.Device.state l.engine.backing) l.fn.engine l.engine
-    l.played.transcript history l.played.ids l.played.log_failed l.played.backing_failed
+    × IsPlayed g.L.Device.state g.B.Device.state l.client (take l.request-index l.requests) l.fn.engine l.engine l.played history

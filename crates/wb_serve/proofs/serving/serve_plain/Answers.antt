@@ -10,7 +10,7 @@ use Rattle.wb_engine.specs.Opening.{IsOnlySynced}
 use Rattle.wb_engine.specs.declared.opening.OpenCause.{OpenCause}
 use Rattle.wb_engine.specs.declared.opening.OpenCause.TheVariants as opening
 use Rattle.wb_serve.specs.declared.serving.ServeStop.TheVariants as stop
-use Rattle.wb_serve.specs.Session.{IsUnserved, SaysLogFault, SaysBackingFault}
+use Rattle.wb_serve.specs.Session.{devices, IsUnserved, SaysLogFault, SaysBackingFault}
 use Rattle.wb_serve.proofs.Openings.{opening, may_open, come_opened}
 use Rattle.wb_serve.proofs.Closed.{Closes}
 use Rattle.wb_serve.proofs.Servings.{one_client, all_one, session_told, session_cut, says_fault, counts_same}
@@ -42,7 +42,7 @@ returns g c =
     let one : c.args.script.now.requests ≡ requests ∷ [] = one_client _ _ (omega (arith, valid.each, valid.some, valid.few)) (rw c.requests.ensures at c.index-requests-0.is) ∙ ap (λ q. q ∷ []) (sym c.as_slice.ensures) in
     let fits : c.args.script.now.sectors ≤ e.geometry.backing_sectors = omega (arith, c.if-found-parsed.false, c.sectors-parsed.ensures, ap (λ (g : Geometry). g.backing_sectors) c.geometry.ensures.geometry) in
     let opens = opening ends.fresh c.geometry.ensures.sound ends.stands ends.synced ends.log ends.backing in
-    let closes : Closes end.fault (g.L.Device.state mid.log) (g.L.Device.state end.log) (g.B.Device.state mid.backing) (g.B.Device.state end.backing) mid = record {
+    let closes : Closes g.L.Device.state g.B.Device.state end.fault (g.L.Device.state end.log) (g.B.Device.state end.backing) mid = record {
       content = close.content;
       empty = λ none base history stands image told. (close.empty none base history stands image told, (close.recorded none base history stands image told).0);
       crash = close.crash;
@@ -59,12 +59,12 @@ returns g c =
     } in
     let session = IfOk-weaker c.session_of.result _ _
     (λ s tells.
-    let told = session_told e mid c.args.script.now requests c.first-first.result c.absorbed-places.result c.play-played.result s
+    let told = session_told c.args.script.now requests c.first-first.result c.absorbed-places.result c.play-played.result s
     opens fits one c.play-played.ensures.played closes c.first-first.ensures c.absorbed-places.ensures tells in (ends.fresh.found, told.0, told.1))
     c.session_of.ensures.told in
     let cut = session_cut c.args.script.now requests opens fits one
     (played_in_part 0 requests c.play-played.result c.play-played.ensures.played c.play-played.ensures.in_part) closes in
-    let unserved = IsUnserved c.args.script.now (g.L.Device.state c.args.log) (g.L.Device.state end.log) (g.B.Device.state c.args.backing) (g.B.Device.state end.backing) in
+    let unserved = IsUnserved c.args.script.now (devices (g.L.Device.state c.args.log) (g.B.Device.state c.args.backing)) (devices (g.L.Device.state end.log) (g.B.Device.state end.backing)) in
     let memory = c.session_of.ensures.memory in
     record {
       session = session;

@@ -9,7 +9,7 @@ pub returns-in-Err-clause-moved : goal.returns-in-Err-clause-moved
 returns-in-Err-clause-moved g c =
     let e = c.loop-engine.engine in
     let full : limit_of e.geometry e.numbers ≤ e.absorbed = omega (arith, c.loop-engine-test.true, c.absorbed.ensures, c.limit.ensures) in
-    let more = room_more g.L.Device.state g.B.Device.state c.args.engine.now e c.turn.new.self c.turn.result c.loop-engine.invariant (sym c.down.ensures ∙ c.in_default.is) full
+    let more = room_more c.args.engine.now e c.turn.new.self c.turn.result c.loop-engine.invariant (sym c.down.ensures ∙ c.in_default.is) full
     c.turn.ensures.step.moves c.turn.ensures.does in
     more.moved
 
@@ -17,7 +17,7 @@ pub returns-in-Err-clause-kept : goal.returns-in-Err-clause-kept
 returns-in-Err-clause-kept g c =
     let e = c.loop-engine.engine in
     let full : limit_of e.geometry e.numbers ≤ e.absorbed = omega (arith, c.loop-engine-test.true, c.absorbed.ensures, c.limit.ensures) in
-    let more = room_more g.L.Device.state g.B.Device.state c.args.engine.now e c.turn.new.self c.turn.result c.loop-engine.invariant (sym c.down.ensures ∙ c.in_default.is) full
+    let more = room_more c.args.engine.now e c.turn.new.self c.turn.result c.loop-engine.invariant (sym c.down.ensures ∙ c.in_default.is) full
     c.turn.ensures.step.moves c.turn.ensures.does in
     more.kept
 
@@ -25,18 +25,18 @@ pub returns-in-Err-clause-down : goal.returns-in-Err-clause-down
 returns-in-Err-clause-down g c =
     let e = c.loop-engine.engine in
     let full : limit_of e.geometry e.numbers ≤ e.absorbed = omega (arith, c.loop-engine-test.true, c.absorbed.ensures, c.limit.ensures) in
-    room_failed g.L.Device.state g.B.Device.state e c.turn.new.self c.turn.result c.in-Err.device c.in-Err.is c.turn.ensures.step.moves c.turn.ensures.does full
+    room_failed e c.turn.new.self c.turn.result c.in-Err.device c.in-Err.is c.turn.ensures.step.moves c.turn.ensures.does full
 
 pub loop-engine-smaller : goal.loop-engine-smaller
 loop-engine-smaller g c =
     let e = c.loop-engine.engine in
     let full : limit_of e.geometry e.numbers ≤ e.absorbed = omega (arith, c.loop-engine-test.true, c.absorbed.ensures, c.limit.ensures) in
     let waits = full_waits e c.loop-engine.invariant.order c.loop-engine.invariant.sealed full in
-    turn_less e c.turn.new.self _ _ _ _ c.turn.result (sym c.down.ensures ∙ c.in_default.is) (busy e c.turn.new.self _ _ _ _ c.turn.result waits c.turn.ensures.does) c.turn.ensures.does
+    turn_less e c.turn.new.self c.turn.result (sym c.down.ensures ∙ c.in_default.is) (busy e c.turn.new.self c.turn.result waits c.turn.ensures.does) c.turn.ensures.does
 
 pub loop-engine-preserved : goal.loop-engine-preserved
 loop-engine-preserved g c =
     let e = c.loop-engine.engine in
     let full : limit_of e.geometry e.numbers ≤ e.absorbed = omega (arith, c.loop-engine-test.true, c.absorbed.ensures, c.limit.ensures) in
-    room_more g.L.Device.state g.B.Device.state c.args.engine.now e c.turn.new.self c.turn.result c.loop-engine.invariant (sym c.down.ensures ∙ c.in_default.is) full
+    room_more c.args.engine.now e c.turn.new.self c.turn.result c.loop-engine.invariant (sym c.down.ensures ∙ c.in_default.is) full
     c.turn.ensures.step.moves c.turn.ensures.does

@@ -9,7 +9,7 @@ use Rattle.wb_serve.proofs.writing.take_place.Goals as goal
 
 pub segment_of-requires-clause-place : goal.segment_of-requires-clause-place
 segment_of-requires-clause-place g c =
-    omega (arith, c.absorbed-place.ensures, place_small c.args.engine.now (g.L.Device.state c.args.engine.now.log) (g.B.Device.state c.args.engine.now.backing) c.geometry.ensures.sound)
+    omega (arith, c.absorbed-place.ensures, place_small c.args.engine.now c.geometry.ensures.sound)
 
 pub returns-in-Some : goal.returns-in-Some
 returns-in-Some g c =
@@ -41,7 +41,7 @@ returns g c =
         c.absorbed-place.ensures,
         left,
         moved_then c.make_room.ensures.moved
-            (moved_entry (entered c.args.entry) absorb.stands absorb.synced (ap g.L.Device.state absorb.kept.log) (ap g.B.Device.state absorb.kept.backing)
+            (moved_entry (entered c.args.entry) absorb.stands absorb.synced absorb.kept.log absorb.kept.backing
             (record { geometry = absorb.kept.geometry; first = ap (λ (n : Numbers). n.first) absorb.numbers })
             absorb.absorbed absorb.kept.down),
         (λ quiet. elim quiet [

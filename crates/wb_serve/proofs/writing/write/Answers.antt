@@ -16,10 +16,6 @@ take_place-requires g c = (
 
 pub returns : goal.returns
 returns g c =
-    let log = g.L.Device.state c.args.engine.now.log in
-    let new_log = g.L.Device.state c.take_place.new.engine.log in
-    let backing = g.B.Device.state c.args.engine.now.backing in
-    let new_backing = g.B.Device.state c.take_place.new.engine.backing in
     let e = c.args.engine.now in
     let f = c.take_place.new.engine in
     let byte : List ℕ → List ℕ = λ pattern. replicate 512 (get_or pattern 0 0) in
@@ -28,8 +24,8 @@ returns g c =
     ∙ ap (λ (pattern : List ℕ). replicate (512 * (c.args.sector % 8)) 0 ++ byte pattern ++ replicate (512 * (8 - (c.args.sector % 8 + 1))) 0) c.as_slice.ensures) in
     record {
       answered =
-          subst (λ (line : Line). IsAnswered c.args.client (Write c.args.sector 1 c.args.pattern.now false) log new_log backing new_backing e f line) (sym c.line_of.ensures)
+          subst (λ (line : Line). IsAnswered g.L.Device.state g.B.Device.state c.args.client (Write c.args.sector 1 c.args.pattern.now false) e f line) (sym c.line_of.ensures)
           (answered_write c.args.client c.args.sector c.args.pattern.now c.take_place.result c.requires.1
-          (subst (λ (x : HistoryEntry). TakesPlace log new_log backing new_backing e f x c.take_place.result) entry c.take_place.ensures.taken));
+          (subst (λ (x : HistoryEntry). TakesPlace g.L.Device.state g.B.Device.state e f x c.take_place.result) entry c.take_place.ensures.taken));
       unanswered = tt;
     }

@@ -7,8 +7,8 @@ use Rattle.wb_engine.proofs.engine.Engine.back_batch.Goals as goal
 pub returns-then-is_err-clause-step : goal.returns-then-is_err-clause-step
 returns-then-is_err-clause-step g c =
     rw (← c.self.view_is)
-    (unbacked _ _ _ _ _ (g.met.L.Device.sound c.self.inside.log) (g.met.B.Device.sound c.self.inside.backing) (ap (λ e. e.down) c.self.view_is ∙ c.requires.up) c.plan_segment.ensures.only_read
-    (record { geometry = refl; numbers = refl; absorbed = refl; memory = refl }))
+    (unbacked _ _ (g.met.L.Device.sound c.self.inside.log) (g.met.B.Device.sound c.self.inside.backing) (ap (λ e. e.down) c.self.view_is ∙ c.requires.up) c.plan_segment.ensures.only_read
+    (record { geometry = refl; numbers = refl; absorbed = refl; memory = refl }) refl)
 
 pub returns-then-is_err-clause-does : goal.returns-then-is_err-clause-does
 returns-then-is_err-clause-does g c =
@@ -33,15 +33,15 @@ pub returns-in-Ok-clause-step : goal.returns-in-Ok-clause-step
 returns-in-Ok-clause-step g c =
     let planned = ok_there c.plan_segment.result (sym c.is_err.ensures.value ∙ c.if-is_err.false) c.plan_segment.ensures.planned in
     rw (← c.self.view_is)
-    (backed _ _ _ _ _ _ (g.met.L.Device.sound c.self.inside.log) (g.met.B.Device.sound c.self.inside.backing) (subst (λ e. MayBack e.numbers) (sym c.self.view_is) c.requires.may) (ap (λ e. e.down) c.self.view_is ∙ c.requires.up) planned
-    c.plan_segment.ensures.only_read c.apply.ensures.same c.apply.ensures.crash _ (record { geometry = refl; numbers = refl; absorbed = refl; memory = refl }) c.in-Ok.ensures.durable c.in-Ok.ensures.ok)
+    (backed _ _ _ (g.met.L.Device.sound c.self.inside.log) (g.met.B.Device.sound c.self.inside.backing) (subst (λ e. MayBack e.numbers) (sym c.self.view_is) c.requires.may) (ap (λ e. e.down) c.self.view_is ∙ c.requires.up) planned
+    c.plan_segment.ensures.only_read c.apply.ensures.same c.apply.ensures.crash (record { geometry = refl; numbers = refl; absorbed = refl; memory = refl }) c.in-Ok.ensures.durable c.in-Ok.ensures.ok)
 
 pub returns-in-Err-clause-step : goal.returns-in-Err-clause-step
 returns-in-Err-clause-step g c =
     let planned = ok_there c.plan_segment.result (sym c.is_err.ensures.value ∙ c.if-is_err.false) c.plan_segment.ensures.planned in
     rw (← c.self.view_is)
-    (partly_backed _ _ _ _ _ _ (g.met.L.Device.sound c.self.inside.log) (g.met.B.Device.sound c.self.inside.backing) (subst (λ e. MayBack e.numbers) (sym c.self.view_is) c.requires.may) (ap (λ e. e.down) c.self.view_is ∙ c.requires.up) planned
-    c.plan_segment.ensures.only_read c.apply.ensures.same c.apply.ensures.crash _ (record { geometry = refl; numbers = refl; absorbed = refl; memory = refl }) (λ is. absurd (cc)) c.in-Err.ensures.err)
+    (partly_backed _ _ _ (g.met.L.Device.sound c.self.inside.log) (g.met.B.Device.sound c.self.inside.backing) (subst (λ e. MayBack e.numbers) (sym c.self.view_is) c.requires.may) (ap (λ e. e.down) c.self.view_is ∙ c.requires.up) planned
+    c.plan_segment.ensures.only_read c.apply.ensures.same c.apply.ensures.crash (record { geometry = refl; numbers = refl; absorbed = refl; memory = refl }) (λ is. absurd (cc)) c.in-Err.ensures.err)
 
 pub returns-in-Err-clause-does : goal.returns-in-Err-clause-does
 returns-in-Err-clause-does g c =

@@ -48,7 +48,7 @@ returns-clause-recorded g c = λ fine base h stands image told.
 
 pub returns-clause-crash : goal.returns-clause-crash
 returns-clause-crash g c = λ base h stands.
-    let is = subst (λ e. IsEngine e (g.L.Device.state e.log) (g.B.Device.state e.backing)) c.engine.view_is c.engine.invariant.0 in
+    let is = subst (IsEngine g.L.Device.state g.B.Device.state) c.engine.view_is c.engine.invariant.0 in
     rw (c.into_devices-log.ensures.log, c.into_devices-log.ensures.backing) (finished_crash _ _ _ _ (finished g c) is base h stands)
 
 pub returns-clause-changed : goal.returns-clause-changed

@@ -12,18 +12,18 @@ returns-in-Ok-Idle-clause-drained g c =
     let so_far = draining_more g.L.Device.state g.B.Device.state c.args.self.now c.loop-self.self c.turn.new.self c.turn.result c.loop-self.invariant up c.turn.ensures.step.moves c.turn.ensures.does in
     let ordered = subst (λ e. IsOrdered e.geometry e.numbers) c.self.view_is c.self.invariant.0.ordered in
     drained g.L.Device.state g.B.Device.state c.args.self.now c.turn.new.self so_far
-    (λ _. idle_recorded c.loop-self.self c.turn.new.self _ _ _ _ c.turn.result ordered (c.in-Ok-Idle.is ∙ ap (λ t. Ok t) c.in-Ok-Idle.field-0-is) c.turn.ensures.does)
+    (λ _. idle_recorded c.loop-self.self c.turn.new.self c.turn.result ordered (c.in-Ok-Idle.is ∙ ap (λ t. Ok t) c.in-Ok-Idle.field-0-is) c.turn.ensures.does)
 
 pub returns-in-Ok-Idle-clause-ordered : goal.returns-in-Ok-Idle-clause-ordered
 returns-in-Ok-Idle-clause-ordered g c = λ _.
     let ordered = subst (λ e. IsOrdered e.geometry e.numbers) c.self.view_is c.self.invariant.0.ordered in
     subst (λ e. IsOrdered e.geometry e.numbers)
-    (sym (idle_stays c.loop-self.self c.turn.new.self _ _ _ _ c.turn.result (c.in-Ok-Idle.is ∙ ap (λ t. Ok t) c.in-Ok-Idle.field-0-is) c.turn.ensures.does)) ordered
+    (sym (idle_stays c.loop-self.self c.turn.new.self c.turn.result (c.in-Ok-Idle.is ∙ ap (λ t. Ok t) c.in-Ok-Idle.field-0-is) c.turn.ensures.does)) ordered
 
 pub loop-self-smaller-in-Logged-1 : goal.loop-self-smaller-in-Logged-1
 loop-self-smaller-in-Logged-1 g c =
     let up : c.loop-self.self.down ≡ None = up_there c.self.view_is c.loop-self-test.ensures in
-    turn_less c.loop-self.self c.turn.new.self _ _ _ _ c.turn.result up (λ is. search rules) c.turn.ensures.does
+    turn_less c.loop-self.self c.turn.new.self c.turn.result up (λ is. search rules) c.turn.ensures.does
 
 pub loop-self-preserved-in-Logged-1 : goal.loop-self-preserved-in-Logged-1
 loop-self-preserved-in-Logged-1 g c =
@@ -33,7 +33,7 @@ loop-self-preserved-in-Logged-1 g c =
 pub loop-self-smaller : goal.loop-self-smaller
 loop-self-smaller g c =
     let up : c.loop-self.self.down ≡ None = up_there c.self.view_is c.loop-self-test.ensures in
-    turn_less c.loop-self.self c.turn.new.self _ _ _ _ c.turn.result up (λ is. search rules) c.turn.ensures.does
+    turn_less c.loop-self.self c.turn.new.self c.turn.result up (λ is. search rules) c.turn.ensures.does
 
 pub loop-self-preserved : goal.loop-self-preserved
 loop-self-preserved g c =

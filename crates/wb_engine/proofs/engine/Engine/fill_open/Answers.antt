@@ -7,16 +7,16 @@ pub loop-init : goal.loop-init
 loop-init g c =
     let begun : ℕ = c.self.inside.absorbed % c.places-places.result in
     let none : 0 ≡ begun - begun = omega arith in
-    let is = subst (λ e. IsEngine e (g.L.Device.state e.log) (g.B.Device.state e.backing)) c.self.view_is c.self.invariant.0 in
+    let is = subst (IsEngine g.L.Device.state g.B.Device.state) c.self.view_is c.self.invariant.0 in
     subst (IsFilling _ _ _ _) none (filling_none _ _ _ is)
 
 pub absorb-requires : goal.absorb-requires
 absorb-requires g c =
-    let is = subst (λ e. IsEngine e (g.L.Device.state e.log) (g.B.Device.state e.backing)) c.self.view_is c.self.invariant.0 in
+    let is = subst (IsEngine g.L.Device.state g.B.Device.state) c.self.view_is c.self.invariant.0 in
     let each = each_is c.self.view_is c.places-places.result c.places-places.ensures.places in
     let begun = begun_is c.self.view_is c.places-places.result c.places-places.ensures.places in
     let some : 1 ≤ c.self.inside.absorbed % c.places-places.result = omega (arith, c.if-begun-eq0.false) in
-    filling_comes _ _ c.args.self.now c.loop.self _ _ _ c.loop.counter is c.loop.invariant begun some c.loop.auto.counter (omega (arith, c.loop-test.true, each))
+    filling_comes _ _ c.args.self.now c.loop.self _ c.loop.counter is c.loop.invariant begun some c.loop.auto.counter (omega (arith, c.loop-test.true, each))
 
 pub loop-preserved : goal.loop-preserved
 loop-preserved g c =

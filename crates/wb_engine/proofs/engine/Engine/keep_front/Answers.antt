@@ -9,7 +9,7 @@ invariant_of-self g c =
     let up = subst (λ e. e.down ≡ None) (sym c.self.view_is) c.requires.up in
     let may = subst (λ e. MayLog e.geometry e.numbers) (sym c.self.view_is) c.requires.may in
     let gone = c.keep_front.ensures in (
-      engine_front_gone _ _ c.keep_front.new.self _ _ c.self.invariant.0 up may (written_level c.self.inside.numbers (c.self.invariant.0.up up))
+      engine_front_gone _ _ c.keep_front.new.self c.self.invariant.0 up may (written_level c.self.inside.numbers (c.self.invariant.0.up up))
           (record { sealed = gone.sealed; logged = gone.logged; current = gone.current }) gone.sizes,
       c.self.invariant.1,
       c.self.invariant.2,

@@ -12,6 +12,6 @@ returns-in-Ok-clause-fresh g c =
 pub returns-in-Ok-clause-stands : goal.returns-in-Ok-clause-stands
 returns-in-Ok-clause-stands g c = λ base only some.
     let found = c.in-Ok.ensures.opened in
-    standing_opened (g.L.Device.state c.args.log) (g.L.Device.state c.prepare.new.log) (g.B.Device.state c.args.backing) (g.B.Device.state c.prepare.new.backing) _ base found.0
+    standing_opened (g.L.Device.state c.args.log) (g.B.Device.state c.args.backing) _ base found.0
     (g.B.Device.state c.args.backing).sectors c.in-Ok.opened.recorded c.in-Ok.opened.plan.room c.in-Ok.opened.scratch.items
     found.1 c.in-Ok.ensures.no_stray found.2 c.all_at.ensures refl c.in-Ok.ensures.settled.0 c.in-Ok.ensures.settled.1 c.prepare.ensures.log.content c.prepare.ensures.backing.content only some

@@ -12,7 +12,7 @@ use Rattle.wb_engine.proofs.ReadLoops.{in_log_le, on_backing_le, counts_later, e
 use Rattle.wb_engine.proofs.engine.Engine.read.Goals as goal
 
 pub loop-index-init : goal.loop-index-init
-loop-index-init g c = read_none c.args.self.now (g.L.Device.state c.args.self.now.log) (g.B.Device.state c.args.self.now.backing) c.args.sector
+loop-index-init g c = read_none c.args.self.now c.args.sector
 
 pub read_sector-requires-clause-inside : goal.read_sector-requires-clause-inside
 read_sector-requires-clause-inside g c = omega (arith, c.loop-index-test.true, c.requires.inside, ap (λ (x : Geometry). x.backing_sectors) c.loop-index.invariant.same.geometry)
@@ -21,12 +21,12 @@ read_sector-requires-clause-inside g c = omega (arith, c.loop-index-test.true, c
 
 pub returns-in_err-read_sector-clause-stands : goal.returns-in_err-read_sector-clause-stands
 returns-in_err-read_sector-clause-stands g c = λ base history stands.
-    standing_read _ _ _ _ _ _ base history (same_trans _ _ _ c.loop-index.invariant.same c.read_sector.ensures.same)
+    standing_read _ _ base history (same_trans _ _ _ c.loop-index.invariant.same c.read_sector.ensures.same)
     (reads_only c.loop-index.invariant.log_read c.read_sector.ensures.log) (reads_only c.loop-index.invariant.backing_read c.read_sector.ensures.backing) stands
 
 pub returns-in_err-read_sector-clause-synced : goal.returns-in_err-read_sector-clause-synced
 returns-in_err-read_sector-clause-synced g c = λ synced.
-    synced_read _ _ _ _ _ _ (same_trans _ _ _ c.loop-index.invariant.same c.read_sector.ensures.same)
+    synced_read _ _ (same_trans _ _ _ c.loop-index.invariant.same c.read_sector.ensures.same)
     (reads_only c.loop-index.invariant.log_read c.read_sector.ensures.log) (reads_only c.loop-index.invariant.backing_read c.read_sector.ensures.backing) synced
 
 pub returns-in_err-read_sector-clause-same : goal.returns-in_err-read_sector-clause-same
@@ -92,11 +92,11 @@ returns-clause-ok g c = λ base image history told stands.
 
 pub returns-clause-stands : goal.returns-clause-stands
 returns-clause-stands g c = λ base history stands.
-    standing_read _ _ _ _ _ _ base history c.loop-index.invariant.same c.loop-index.invariant.log_read c.loop-index.invariant.backing_read stands
+    standing_read _ _ base history c.loop-index.invariant.same c.loop-index.invariant.log_read c.loop-index.invariant.backing_read stands
 
 pub returns-clause-synced : goal.returns-clause-synced
 returns-clause-synced g c = λ synced.
-    synced_read _ _ _ _ _ _ c.loop-index.invariant.same c.loop-index.invariant.log_read c.loop-index.invariant.backing_read synced
+    synced_read _ _ c.loop-index.invariant.same c.loop-index.invariant.log_read c.loop-index.invariant.backing_read synced
 
 pub returns-clause-same : goal.returns-clause-same
 returns-clause-same g c = c.loop-index.invariant.same

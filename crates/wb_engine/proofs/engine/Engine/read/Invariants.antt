@@ -4,6 +4,4 @@ use Rattle.wb_engine.proofs.ReadLoops.{IsReadTo}
 use Rattle.wb_engine.proofs.engine.Engine.read.Given as goal
 
 abbrev pub invariant-loop-index : goal.invariant-loop-index
-invariant-loop-index g l =
-    IsReadTo l.fn.self l.self (g.L.Device.state l.fn.self.log) (g.L.Device.state l.self.log) (g.B.Device.state l.fn.self.backing) (g.B.Device.state l.self.backing)
-    l.fn.sector l.index (take (512 * l.index) l.into)
+invariant-loop-index g l = IsReadTo g.L.Device.state g.B.Device.state l.fn.self l.self l.fn.sector l.index (take (512 * l.index) l.into)

@@ -45,4 +45,4 @@ returns-then-can_record-clause-does g c =
     ))))
 
 pub returns-clause-step : goal.returns-clause-step
-returns-clause-step g c = idle c.args.self.now _ _ (g.met.L.Device.sound c.args.self.now.log) (g.met.B.Device.sound c.args.self.now.backing) c.requires
+returns-clause-step g c = idle c.args.self.now (g.met.L.Device.sound c.args.self.now.log) (g.met.B.Device.sound c.args.self.now.backing) c.requires

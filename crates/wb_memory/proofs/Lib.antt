@@ -1,0 +1,5 @@
+pub mod Listed
+pub mod ListedReads
+pub mod ListedSpots
+pub mod Memories
+pub mod SegmentSpots
