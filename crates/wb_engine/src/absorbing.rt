@@ -6,10 +6,10 @@ ghost use Rattle.wb_geometry.specs.Entering.{entered};
 ghost use Rattle.wb_engine.specs.Standing.{Standing, IsSynced, MayCome, IsOffDevices, IsDirty, Keeps, IsSealedIfFull, numbers_at};
 
 use crate::engine::Engine;
-use wb_memory::Memory;
 use wb_crash::Numbers;
 use wb_device::Device;
 use wb_geometry::Entry;
+use wb_memory::Memory;
 
 impl<L: Device, B: Device> Engine<L, B> {
     /// Takes the next entry of the history: it gets the place `absorbed`. There must be room (`absorbed` is below `limit`),

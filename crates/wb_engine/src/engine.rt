@@ -10,12 +10,12 @@ ghost use Rattle.wb_engine.specs.Content.{IsEngine, limit_of};
 ghost use Rattle.wb_engine.specs.Standing.{Standing, line};
 ghost use Rattle.wb_engine.specs.Spots.{IsNewestSpot};
 
-use wb_memory::Memory;
 use std::marker::Model;
 use wb_back::Plan;
 use wb_crash::Numbers;
 use wb_device::Device;
 use wb_geometry::{Geometry, Spot, Which};
+use wb_memory::Memory;
 
 /// A cache before a backing device, on one thread. It takes no memory after it was opened.
 ///

@@ -10,13 +10,13 @@ ghost use Rattle.wb_engine.specs.Standing.{Standing, Told, IsSynced};
 ghost use Rattle.wb_engine.specs.Opening.{IsOpened, IsOnly, IsOnlySynced, HasNoStray, RefusesSlots, RefusesOpening, IsEarly, IsLate, MayOpen, IsOpenedFor, most_recorded};
 
 use crate::engine::Engine;
-use wb_memory::Memory;
 use std::alloc::{AllocError, Global};
 use wb_back::Plan;
 use wb_crash::Numbers;
 use wb_device::Device;
 use wb_geometry::Geometry;
 use wb_header::header_id;
+use wb_memory::Memory;
 use wb_super::{Super, SuperRefused, read_super};
 
 /// Why an engine wasn't opened: the first of these causes that applies, in this order.

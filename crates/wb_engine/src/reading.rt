@@ -9,10 +9,10 @@ ghost use Rattle.wb_engine.specs.Standing.{Standing, Told, IsSynced, IsSameEngin
 ghost use Rattle.wb_engine.specs.Reading.{on_backing, in_log};
 
 use crate::engine::Engine;
-use wb_memory::Newest;
 use wb_device::{Device, DeviceFault};
 use wb_geometry::Which;
 use wb_log::read_sector;
+use wb_memory::Newest;
 
 const SECTOR_BYTES: usize = 512;
 

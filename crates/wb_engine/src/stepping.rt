@@ -6,11 +6,11 @@ ghost use Rattle.wb_log.specs.Kept.{IsThere, metas_at};
 ghost use Rattle.wb_engine.specs.Stepping.{MayLog, MaySync, MayBack, MayRecord, LogsNext, SyncsLog, WritesBack, PutsRecord, IsStep, IsPlanOf, IsFrontKept, IsRecordedGone};
 
 use crate::engine::Engine;
-use wb_memory::Memory;
 use wb_back::{Plan, apply};
 use wb_device::{Device, DeviceFault};
 use wb_geometry::{Geometry, Spot, Which};
 use wb_log::{read_block, write_segment};
+use wb_memory::Memory;
 use wb_super::write_record;
 
 /// The bytes of a block.

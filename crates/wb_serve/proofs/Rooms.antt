@@ -92,7 +92,6 @@ module _ {L B : Type 0} {of_log : L → State} {of_backing : B → State} where
   none_logged old new (Err other) which is (inr (inr (inl did))) = ap (λ (n : Numbers). n.logged) did.3.failed.0
   none_logged old new (Err other) which is (inr (inr (inr (inl did)))) = ap (λ (n : Numbers). n.logged) did.4.failed.1
   none_logged old new (Err other) which is (inr (inr (inr (inr did)))) = let idle : Err other ≡ Ok turn.Idle = did.4 in absurd (cc)
-
   -- ---- no room
 
 module _ {L B : Type 0} where
