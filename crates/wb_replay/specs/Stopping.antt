@@ -35,8 +35,8 @@ StopsInTurn stop.LogFault log new_log backing new_backing = IsUncalled backing n
 StopsInTurn stop.BackingFault log new_log backing new_backing = IsOnlySynced log new_log × NothingPending new_log
 
 -- the log is read so many times at most and the backing device never, and both are synced twice at most
-pub record CallsAtMost (reads : ℕ) (log new_log backing new_backing : State) : Type 0 where
-  pub log_reads : new_log.reads ≤ log.reads + reads
+pub record CallsAtMost (most : ℕ) (log new_log backing new_backing : State) : Type 0 where
+  pub log_reads : new_log.reads ≤ log.reads + most
   pub log_syncs : new_log.syncs ≤ log.syncs + 2
   pub reads : new_backing.reads ≡ backing.reads
   pub syncs : new_backing.syncs ≤ backing.syncs + 2

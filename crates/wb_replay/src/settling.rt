@@ -47,6 +47,7 @@ fn refuse_stray<L: Device>(log: &mut L, geometry: &Geometry, limit: u64) -> Resu
     requires { log_sectors geometry.now ≤ (L.state log.old).sectors }
     ensures no_stray { OnOk result (HasNoStray geometry.now limit (L.state log.old)) }
     ensures refused { IfErr result (RefusesSlots geometry.now limit (L.state log.old)) }
+    ensures by_log { result ≡ Err ReplayStop.BackingFault → ⊥ }
     ensures only_read { OnlyRead (L.state log.old) (L.state log.new) }
     ensures reads { (L.state log.new).reads ≤ (L.state log.old).reads + geometry.now.slots }
     ensures cause { CountsFaultsWhere (result ≡ Err ReplayStop.LogFault) (L.state log.old).faults (L.state log.new).faults }
