@@ -6,3 +6,4 @@ mod Segments
 mod Chains
 mod Turns
 mod Leavings
+mod Judged

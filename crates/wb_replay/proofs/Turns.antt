@@ -101,7 +101,7 @@ tidy_of g limit log x none told is slot below = omega (arith, is, where_told _ l
 records_content : (n : ℕ) {old mid new : State} → IsOnlySynced old mid → ContentPasses (RecordsOrNot n) mid new → ContentPasses (RecordsOrNot n) old new
 records_content n synced pass = content_kept_before synced.content pass
 
-records_crash : (n : ℕ) {old mid new : State} → IsOnlySynced old mid → Passes (RecordsOrNot n) mid new → Passes (RecordsOrNot n) old new
+pub records_crash : (n : ℕ) {old mid new : State} → IsOnlySynced old mid → Passes (RecordsOrNot n) mid new → Passes (RecordsOrNot n) old new
 records_crash n synced pass = joined (λ x y left is. inl is) (λ x y z left is step. subst (λ (u : Image). RecordsOrNot n u z) is step) synced.crash pass
 
 -- ---- an end before anything is written
