@@ -186,15 +186,15 @@ follows_stopped {log} {mid_log} {backing} {mid} {new} g recorded count slot so_f
     let run = so_far.run x told is in
     elim (stops x (so_far.only_read.content ∙ told)) [
       | inl none ↦ record {
-          run = run.run;
-          is = run.is;
-          puts = some_front (flat_map entries_of run.run) (flat_map entries_of run.run ++ []) [] nothing_more (some_then (flat_map entries_of run.run) [] run.puts none);
-        }
+        run = run.run;
+        is = run.is;
+        puts = some_front (flat_map entries_of run.run) (flat_map entries_of run.run ++ []) [] nothing_more (some_then (flat_map entries_of run.run) [] run.puts none);
+      }
       | inr some ↦ record {
-          run = run.run ++ some.0 ∷ [];
-          is = run_more g x run.run some.0 run.is (omega (arith, below, run.size)) (held_next g x recorded count run.run some.0 is run.size some.1);
-          puts = subst (λ (es : List HistoryEntry). PutsSome es backing new) (sym (pushed run.run some.0)) (some_then (flat_map entries_of run.run) (entries_of some.0) run.puts some.2);
-        }
+        run = run.run ++ some.0 ∷ [];
+        is = run_more g x run.run some.0 run.is (omega (arith, below, run.size)) (held_next g x recorded count run.run some.0 is run.size some.1);
+        puts = subst (λ (es : List HistoryEntry). PutsSome es backing new) (sym (pushed run.run some.0)) (some_then (flat_map entries_of run.run) (entries_of some.0) run.puts some.2);
+      }
     ]
   where
     nothing_more : flat_map entries_of (so_far.run x told is).run ≡ (flat_map entries_of (so_far.run x told is).run ++ []) ++ []

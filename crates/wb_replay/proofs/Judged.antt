@@ -28,9 +28,9 @@ pub super_read : (log mid : State) (found : Super) → IsSuper log found → Onl
 super_read log mid found super only = record {
   version = super.version;
   formatted = record {
-      room = omega (arith, super.formatted.room, only.same.size);
-      text = subst (λ (o : Option Image). IfSome o (λ x. SuperText x found.geometry 1)) (sym only.content) super.formatted.text;
-    };
+    room = omega (arith, super.formatted.room, only.same.size);
+    text = subst (λ (o : Option Image). IfSome o (λ x. SuperText x found.geometry 1)) (sym only.content) super.formatted.text;
+  };
   number = subst (λ (o : Option Image). IfSome o (λ x. record_of x ≡ found.recorded)) (sym only.content) super.number;
   bounded = super.bounded;
 }
@@ -119,11 +119,11 @@ calls_judged found super only few calls = (
   found,
   super,
   record {
-      log_reads = omega (arith, few, calls.log_reads);
-      log_syncs = omega (arith, only.syncs, calls.log_syncs);
-      reads = calls.reads;
-      syncs = calls.syncs;
-    },
+    log_reads = omega (arith, few, calls.log_reads);
+    log_syncs = omega (arith, only.syncs, calls.log_syncs);
+    reads = calls.reads;
+    syncs = calls.syncs;
+  },
 )
 
 calls_alone : {log new : State} (backing : State) (found : Super) → IsSuper log found → OnlyRead log new → new.reads ≤ log.reads + 2 → CallsFew log new backing backing
@@ -131,11 +131,11 @@ calls_alone backing found super only few = (
   found,
   super,
   record {
-      log_reads = omega (arith, few);
-      log_syncs = omega (arith, only.syncs);
-      reads = refl;
-      syncs = omega arith;
-    },
+    log_reads = omega (arith, few);
+    log_syncs = omega (arith, only.syncs);
+    reads = refl;
+    syncs = omega arith;
+  },
 )
 
 pub calls_unjudged : {log new : State} (backing : State) (has : ℕ) (why : RecoverStop) → RefusesRecovery log has why → OnlyRead log new → (IsBehindSuper why → new.reads ≤ log.reads + 2)

@@ -64,9 +64,9 @@ partly_between before partly behind = record {
   run = partly.run;
   is = partly.is;
   puts = record {
-      content = content_kept_before before.content (content_kept_after partly.puts.content behind.content);
-      crash = crash_between (flat_map entries_of partly.run) before partly.puts.crash behind;
-    };
+    content = content_kept_before before.content (content_kept_after partly.puts.content behind.content);
+    crash = crash_between (flat_map entries_of partly.run) before partly.puts.crash behind;
+  };
 }
 
 pub whole_between : {g : Geometry} {x : Image} {followed : Followed} {old mid now new : State} → IsOnlySynced old mid → FollowsChain g x followed mid now → IsOnlySynced now new → FollowsChain g x followed old new
@@ -76,9 +76,9 @@ whole_between before follows behind = record {
   count = follows.count;
   stopped = follows.stopped;
   puts = record {
-      content = content_kept_before before.content (content_kept_after follows.puts.content behind.content);
-      crash = crash_between (flat_map entries_of follows.chain) before follows.puts.crash behind;
-    };
+    content = content_kept_before before.content (content_kept_after follows.puts.content behind.content);
+    crash = crash_between (flat_map entries_of follows.chain) before follows.puts.crash behind;
+  };
 }
 
 -- the whole chain is what recovery puts

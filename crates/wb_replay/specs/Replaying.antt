@@ -1,5 +1,5 @@
 -- What recovery does to the two devices, by the image x that the log has as its content at the start.
-use Rattle.std.specs.Prelude.{ℕ, ◌≡◌, ◌⊎◌, ◌+◌, ◌/◌, List, length, Some}
+use Rattle.std.specs.Prelude.{ℕ, ◌≡◌, ◌⊎◌, ◌+◌, ◌/◌, ◌≤◌, List, length, Some}
 use Rattle.std.specs.List.{flat_map}
 use Rattle.wb_geometry.specs.Image.{Image, bytes_at}
 use Rattle.wb_geometry.specs.Device.{State, NothingPending, Passes, ContentPasses, IsSameDevice}
@@ -11,6 +11,7 @@ use Rattle.wb_header.specs.Standing.{entries_of}
 use Rattle.wb_header.specs.Refused.{Refuses}
 use Rattle.wb_header.specs.declared.checking.Refused.{Refused}
 use Rattle.wb_super.specs.Superblock.{record_of}
+use Rattle.wb_super.specs.declared.reading.Super.{Super}
 use Rattle.wb_super.specs.Recording.{Records, RecordsOrNot}
 use Rattle.wb_crash.specs.Chain.{IsChain, IsRecovered, IsTidy}
 use Rattle.wb_replay.specs.declared.replaying.Recovery.{Recovery}
@@ -29,6 +30,13 @@ pub record PutsSome (entries : List HistoryEntry) (old new : State) : Type 0 whe
 -- why the slot of segment `id` doesn't begin with a text of it
 abbrev pub RefusesSlot : Geometry → Image → (id : ℕ) → Refused → Type 0
 RefusesSlot g x id refused = Refuses (places g) (g.backing_sectors / 8) id (bytes_at x (slot_start g id) (slot_sectors g)) refused
+
+-- the ids that recovery names, by the record that it found
+pub record IsNumbered (found : Super) (recovery : Recovery) : Type 0 where
+  pub from : recovery.from ≡ found.recorded + 1
+  pub recorded : recovery.recorded ≡ found.recorded + found.geometry.slots
+  pub low : recovery.from ≤ recovery.through + 1
+  pub high : recovery.through ≤ recovery.recorded
 
 -- what recovery says of the log
 pub record TellsChain (g : Geometry) (x : Image) (recovery : Recovery) : Type 0 where

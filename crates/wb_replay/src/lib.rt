@@ -12,3 +12,6 @@ mod settling;
 
 pub use recovering::{RecoverStop, recover};
 pub use replaying::{Recovery, ReplayStop, replay};
+
+#[cfg(test)]
+mod tests;

@@ -9,7 +9,7 @@ ghost use Rattle.wb_super.specs.declared.reading.SuperRefused.TheVariants.{Fault
 ghost use Rattle.wb_geometry.specs.declared.geometry.Geometry.{Geometry};
 ghost use Rattle.wb_crash.specs.Safety.{IsFresh};
 ghost use Rattle.wb_crash.specs.Crash.{CrashInRecover, MakesOfContents};
-ghost use Rattle.wb_replay.specs.Replaying.{TellsChain, IsAllPut, GoesInTurn, MakesOf, LeavesRecovered};
+ghost use Rattle.wb_replay.specs.Replaying.{IsNumbered, TellsChain, IsAllPut, GoesInTurn, MakesOf, LeavesRecovered};
 ghost use Rattle.wb_replay.specs.Stopping.{MayRecover, RefusesRecovery, RecoverStopsInTurn, IsEarly, IsBehindSuper, CallsFew, stop_of};
 
 use crate::{Recovery, ReplayStop, replay};
@@ -48,8 +48,7 @@ pub fn recover<L: Device, B: Device>(
     log: &mut L,
     backing: &mut B,
 ) -> Result<Recovery, RecoverStop>
-    ensures numbers { IfOk result (λ recovery. (found : Super) × MayRecover (L.state log.old) (B.state backing.old).sectors found
-        × (recovery.from ≡ found.recorded + 1) × (recovery.recorded ≡ found.recorded + found.geometry.slots)) }
+    ensures numbers { IfOk result (λ recovery. (found : Super) × MayRecover (L.state log.old) (B.state backing.old).sectors found × IsNumbered found recovery) }
     ensures chain { IfOk result (λ recovery. (g : Geometry) (x : Image) → (L.state log.old).content ≡ Some x → SuperText x g 1 → TellsChain g x recovery) }
     ensures all_put { OnOk result ((g : Geometry) (x : Image) → (L.state log.old).content ≡ Some x → SuperText x g 1
         → IsAllPut g x (B.state backing.old) (B.state backing.new)) }

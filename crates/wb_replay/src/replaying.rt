@@ -7,10 +7,9 @@ ghost use Rattle.wb_super.specs.Found.{IsSuper, most_record};
 ghost use Rattle.wb_super.specs.Recording.{Records, RecordsOrNot};
 ghost use Rattle.wb_crash.specs.Safety.{IsFresh};
 ghost use Rattle.wb_crash.specs.Crash.{CrashInRecover, MakesOfContents};
-ghost use Rattle.wb_replay.specs.Replaying.{TellsChain, IsAllPut, GoesInTurn, MakesOf, LeavesRecovered};
+ghost use Rattle.wb_replay.specs.Replaying.{IsOnlySynced, IsNumbered, TellsChain, IsAllPut, GoesInTurn, MakesOf, LeavesRecovered};
 ghost use Rattle.wb_replay.specs.Stopping.{HasNoStray, RefusesSlots, StopsInTurn, CallsAtMost};
 ghost use Rattle.wb_replay.specs.Putting.{FollowsChain, StopsAtEnd, EndsIn};
-ghost use Rattle.wb_replay.specs.Replaying.{IsOnlySynced};
 
 use crate::following::{Followed, put_chain};
 use crate::settling::settle;
@@ -60,7 +59,7 @@ pub fn replay<L: Device, B: Device>(
     requires backing_room { found.now.geometry.backing_sectors ≤ (B.state backing.old).sectors }
     requires bounded { found.now.recorded ≤ most_record }
     requires buffer { length slot.old ≡ 512 * slot_sectors found.now.geometry }
-    ensures numbers { IfOk result (λ recovery. (recovery.from ≡ found.now.recorded + 1) × (recovery.recorded ≡ found.now.recorded + found.now.geometry.slots)) }
+    ensures numbers { IfOk result (IsNumbered found.now) }
     ensures chain { IfOk result (λ recovery. IsSuper (L.state log.old) found.now → (x : Image) → (L.state log.old).content ≡ Some x
         → TellsChain found.now.geometry x recovery) }
     ensures all_put { OnOk result (IsSuper (L.state log.old) found.now → (x : Image) → (L.state log.old).content ≡ Some x

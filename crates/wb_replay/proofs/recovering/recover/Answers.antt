@@ -51,8 +51,7 @@ pub returns-in-Ok-replay-clause-numbers : goal.returns-in-Ok-replay-clause-numbe
 returns-in-Ok-replay-clause-numbers g c = (
   c.in_ok-found.found,
   subst (λ (n : ℕ). MayRecover (g.L.Device.state c.args.log.now) n c.in_ok-found.found) c.sectors.ensures c.in_ok-found.ensures.found,
-  c.in-Ok-replay.ensures.numbers.0,
-  c.in-Ok-replay.ensures.numbers.1,
+  c.in-Ok-replay.ensures.numbers,
 )
 
 pub returns-in-Ok-replay-clause-chain : goal.returns-in-Ok-replay-clause-chain
