@@ -1,11 +1,11 @@
 -- The blocks of a text, put one after another.
-use Rattle.std.proofs.Common.{ℕ, ◌≡◌, ◌+◌, ◌-◌, ◌*◌, ◌<◌, ◌≤◌, List, [], ◌∷◌, ◌++◌, length, get_or, take, drop, take-append-drop, refl, ap, sym, ◌∙◌, subst, arith}
-use Rattle.std.specs.List.{All, range_with_len}
+use Rattle.std.proofs.Common.{ℕ, ◌≡◌, ◌+◌, ◌*◌, ◌<◌, ◌≤◌, List, [], ◌∷◌, ◌++◌, length, drop, take-append-drop, refl, ap, sym, ◌∙◌, subst, arith}
+use Rattle.std.specs.List.{All}
 use Rattle.std.proofs.lemmas.List.{length-take-le, length-drop, map-append}
 use Rattle.std.proofs.lemmas.List.FromFn.{length-map-range_with_len, get_or-map-range_with_len, map-range_with_len_more, take-map-range_with_len}
 use Rattle.std.proofs.lemmas.List.Elements.{All-get_or}
-use Rattle.wb_geometry.specs.History.{HistoryEntry, Write, PutsPartly, put}
-use Rattle.wb_geometry.specs.Device.{State, Passes, ContentPasses, IsSameDevice}
+use Rattle.wb_geometry.specs.History.{HistoryEntry, Write}
+use Rattle.wb_geometry.specs.Device.{State}
 use Rattle.wb_header.specs.Text.{TextBlock, no_block, length_in, number_in, bits_in, payload_in, block_in, blocks_in}
 use Rattle.wb_header.specs.Standing.{entry_of, entries_of}
 use Rattle.wb_replay.specs.Replaying.{PutsSome}

@@ -1,5 +1,5 @@
 -- Counts of faults, at an exit and over several calls.
-use Rattle.std.proofs.Common.{ℕ, ◌≡◌, ◌≤◌, ◌∙◌, Result, Err, refl, sym, subst, arith}
+use Rattle.std.proofs.Common.{ℕ, ◌≡◌, ◌≤◌, ◌∙◌, arith}
 use Rattle.wb_geometry.specs.Device.{CountsFaultsWhere, Rose}
 
 -- the count stayed

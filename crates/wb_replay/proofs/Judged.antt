@@ -1,25 +1,23 @@
 -- What comes behind the reads of the superblock.
-use Rattle.std.proofs.Common.{ℕ, ◌≡◌, ◌⊎◌, ◌+◌, ◌*◌, ◌<◌, ◌≤◌, Some, Option, refl, sym, ◌∙◌, ap, subst, inl, inr, arith}
+use Rattle.std.proofs.Common.{ℕ, ◌≡◌, ◌+◌, ◌*◌, ◌<◌, ◌≤◌, Some, Option, refl, sym, ◌∙◌, ap, subst, inl, inr, arith}
 use Rattle.std.specs.Option.{IfSome}
 use Rattle.wb_geometry.specs.Image.{Image}
-use Rattle.wb_geometry.specs.Device.{State, OnlyRead, ContentPasses, CountsFaultsWhere}
+use Rattle.wb_geometry.specs.Device.{State, OnlyRead, ContentPasses}
 use Rattle.wb_geometry.specs.declared.geometry.Geometry.{Geometry}
-use Rattle.wb_geometry.proofs.Moments.{content_kept_before, uncalled}
+use Rattle.wb_geometry.proofs.Moments.{content_kept_before}
 use Rattle.wb_super.specs.Found.{IsSuper}
 use Rattle.wb_super.specs.Superblock.{SuperText, record_of, header_id}
 use Rattle.wb_super.specs.Recording.{Records}
 use Rattle.wb_super.specs.declared.reading.Super.{Super}
-use Rattle.wb_super.specs.declared.reading.SuperRefused.TheVariants.{Fault}
 use Rattle.wb_super.proofs.Superblocks.{one_geometry}
 use Rattle.wb_crash.specs.Safety.{IsFresh}
-use Rattle.wb_replay.specs.Replaying.{IsOnlySynced, TellsChain, IsAllPut, GoesInTurn}
-use Rattle.wb_replay.specs.Stopping.{IsFirstStray, RefusesSlots, StopsInTurn, CallsAtMost, MayRecover, RefusesRecovery, RecoverStopsInTurn, IsEarly, IsBehindSuper, CallsFew, stop_of}
+use Rattle.wb_replay.specs.Replaying.{TellsChain, IsAllPut, GoesInTurn}
+use Rattle.wb_replay.specs.Stopping.{RefusesSlots, StopsInTurn, CallsAtMost, MayRecover, RefusesRecovery, RecoverStopsInTurn, IsBehindSuper, CallsFew, stop_of}
 use Rattle.wb_replay.specs.declared.replaying.Recovery.{Recovery}
 use Rattle.wb_replay.specs.declared.replaying.ReplayStop.{ReplayStop}
 use Rattle.wb_replay.specs.declared.replaying.ReplayStop.TheVariants as stop
 use Rattle.wb_replay.specs.declared.recovering.RecoverStop.{RecoverStop}
 use Rattle.wb_replay.specs.declared.recovering.RecoverStop.TheVariants as cause
-use Rattle.wb_replay.proofs.Counts.{counts_between}
 use Rattle.wb_replay.proofs.Turns.{synced_none, synced_by_reads, synced_then, records_crash, number_of, text_of, goes_before}
 
 -- ---- the superblock

@@ -7,3 +7,4 @@ mod Chains
 mod Turns
 mod Leavings
 mod Judged
+mod Deciding

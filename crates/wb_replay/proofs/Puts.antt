@@ -1,13 +1,13 @@
 -- Entries that are put one after another, by calls that follow one another.
-use Rattle.std.proofs.Common.{◌≡◌, ◌++◌, List, [], Some, refl, ap, sym, ◌∙◌, subst}
+use Rattle.std.proofs.Common.{◌≡◌, ◌++◌, List, [], refl, ap, sym, ◌∙◌, subst}
 use Rattle.std.specs.List.{All, Contains}
 use Rattle.std.proofs.lemmas.List.Elements.{All-nil, All-weaker, All-contains_itself, Contains-append_left, Contains-append_right}
 use Rattle.wb_geometry.specs.Image.{Image}
 use Rattle.wb_geometry.specs.History.{HistoryEntry, after, PutsPartly}
-use Rattle.wb_geometry.specs.Device.{State, IsSameDevice, Passes, ContentPasses}
+use Rattle.wb_geometry.specs.Device.{State, Passes}
 use Rattle.wb_geometry.proofs.Histories.{after-append, puts_some, puts_all, puts_then}
-use Rattle.wb_geometry.proofs.Moments.{passes_same, joined, weaker, content_same, content_weaker, content_joined, content_kept_before, same_device, same_device_trans}
-use Rattle.wb_replay.specs.Replaying.{PutsSome, IsOnlySynced}
+use Rattle.wb_geometry.proofs.Moments.{passes_same, joined, weaker, content_same, content_weaker, content_joined, same_device, same_device_trans}
+use Rattle.wb_replay.specs.Replaying.{PutsSome}
 use Rattle.wb_replay.specs.Putting.{PutsAll, IsUnsynced}
 
 fronts : (es fs : List HistoryEntry) → All (Contains (es ++ fs)) es

@@ -1,5 +1,5 @@
 -- The bytes of a slot, read and checked.
-use Rattle.std.proofs.Common.{ℕ, suc, ◌≡◌, ◌+◌, ◌-◌, ◌*◌, ◌/◌, ◌%◌, ◌^◌, ◌<◌, ◌≤◌, List, [], ◌∷◌, ◌++◌, length, take, drop, Some, ap, sym, ◌∙◌, subst, arith}
+use Rattle.std.proofs.Common.{ℕ, suc, ◌≡◌, ◌+◌, ◌-◌, ◌*◌, ◌/◌, ◌%◌, ◌<◌, ◌≤◌, List, [], length, take, drop, Some, ap, ◌∙◌, subst, arith}
 use Rattle.std.proofs.Math.Seq.{drop-cons, take-append-le}
 use Rattle.wb_geometry.specs.Image.{Image, IsImage, sector, bytes_at, bytes_of}
 use Rattle.wb_geometry.specs.Device.{State, IsDevice, IsInside, HoldsContent}

@@ -1,5 +1,5 @@
 -- The ids of a log's slots, read one after another.
-use Rattle.std.proofs.Common.{ℕ, ◌≡◌, ◌+◌, ◌<◌, ◌≤◌, ◌^◌, true, false, List, length, take, Option, Some, None, Result, Ok, Err, refl, sym, ap, ◌∙◌, subst, inl, inr, arith}
+use Rattle.std.proofs.Common.{ℕ, ◌≡◌, ◌+◌, ◌<◌, ◌≤◌, true, false, List, length, take, Option, Some, None, Result, Ok, Err, refl, sym, ap, ◌∙◌, subst, inl, inr, arith}
 use Rattle.std.specs.Int.{w64, from_le_bytes}
 use Rattle.std.specs.Option.{IfSome}
 use Rattle.std.specs.Result.{OnOk, OnErr, is_err}
@@ -7,7 +7,7 @@ use Rattle.std.proofs.lemmas.Bool.{cases_lt}
 use Rattle.std.proofs.lemmas.Nat.{pow_pos}
 use Rattle.wb_geometry.specs.Image.{Image, sector}
 use Rattle.wb_geometry.specs.Device.{State, IsDevice, IsInside, HoldsContent, OnlyRead, next_count}
-use Rattle.wb_geometry.specs.Layout.{slot_at, log_sectors, slot_sectors}
+use Rattle.wb_geometry.specs.Layout.{slot_at, log_sectors}
 use Rattle.wb_geometry.specs.declared.geometry.Geometry.{Geometry}
 use Rattle.wb_geometry.proofs.Moments.{only_read}
 use Rattle.wb_geometry.proofs.Slots.{slots_follow}

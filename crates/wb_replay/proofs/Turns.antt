@@ -1,10 +1,10 @@
 -- What stands where recovery ends: before anything is written, in the chain, and at its end.
-use Rattle.std.proofs.Common.{ℕ, ◌≡◌, ◌+◌, ◌≤◌, List, Some, Result, Err, refl, sym, ◌∙◌, ap, subst, inl, inr, arith}
+use Rattle.std.proofs.Common.{ℕ, ◌≡◌, ◌+◌, ◌≤◌, List, Some, Result, Err, refl, sym, ◌∙◌, subst, inl, inr, arith}
 use Rattle.std.specs.List.{flat_map}
 use Rattle.std.specs.Result.{IfErr}
 use Rattle.wb_geometry.specs.Image.{Image}
-use Rattle.wb_geometry.specs.History.{HistoryEntry, after, PutsPartly}
-use Rattle.wb_geometry.specs.Device.{State, NothingPending, Passes, ContentPasses, OnlyRead, IsUncalled, next_count}
+use Rattle.wb_geometry.specs.History.{HistoryEntry, PutsPartly}
+use Rattle.wb_geometry.specs.Device.{State, NothingPending, Passes, ContentPasses, OnlyRead, next_count}
 use Rattle.wb_geometry.specs.declared.geometry.Geometry.{Geometry}
 use Rattle.wb_geometry.proofs.Moments.{passes_same, joined, joined_same, weaker, content_same, content_weaker, content_kept_before, content_kept_after, same_device, same_device_trans}
 use Rattle.wb_header.specs.Standing.{entries_of}
@@ -13,9 +13,9 @@ use Rattle.wb_super.specs.Superblock.{SuperText, record_of}
 use Rattle.wb_super.specs.Recording.{RecordsOrNot}
 use Rattle.wb_super.specs.declared.reading.Super.{Super}
 use Rattle.wb_crash.specs.Chain.{IsTidy, IsRecovered}
-use Rattle.wb_replay.specs.Replaying.{IsOnlySynced, PutsSome, IsAllPut, GoesInTurn}
+use Rattle.wb_replay.specs.Replaying.{IsOnlySynced, PutsSome, GoesInTurn}
 use Rattle.wb_replay.specs.Stopping.{HasNoStray, StopsInTurn}
-use Rattle.wb_replay.specs.Putting.{PutsAll, FollowsChain, FollowsPartly, StopsAtEnd}
+use Rattle.wb_replay.specs.Putting.{FollowsChain, FollowsPartly, StopsAtEnd}
 use Rattle.wb_replay.specs.declared.following.Followed.{Followed}
 use Rattle.wb_replay.specs.declared.replaying.ReplayStop.{ReplayStop}
 use Rattle.wb_replay.specs.declared.replaying.ReplayStop.TheVariants as stop

@@ -1,8 +1,8 @@
 -- How the chain is followed, segment by segment, and what comes before and behind. Private clauses alone speak of it.
-use Rattle.std.specs.Prelude.{ℕ, ◌≡◌, ◌⊎◌, ◌+◌, ◌≤◌, List, [], length, map, Option, Some, None}
+use Rattle.std.specs.Prelude.{ℕ, ◌≡◌, ◌⊎◌, ◌+◌, ◌≤◌, List, [], length, Option, Some, None}
 use Rattle.std.specs.List.{flat_map}
 use Rattle.wb_geometry.specs.Image.{Image}
-use Rattle.wb_geometry.specs.Device.{State, Passes, ContentPasses, NothingPending, IsSameDevice, IsUncalled, next_count}
+use Rattle.wb_geometry.specs.Device.{State, Passes, ContentPasses, NothingPending, IsSameDevice, IsUncalled}
 use Rattle.wb_geometry.specs.History.{HistoryEntry, after, PutsPartly}
 use Rattle.wb_geometry.specs.declared.geometry.Geometry.{Geometry}
 use Rattle.wb_header.specs.Text.{TextBlock, length_in, blocks_in}
@@ -10,7 +10,6 @@ use Rattle.wb_header.specs.Standing.{entries_of}
 use Rattle.wb_header.specs.Slots.{HoldsText}
 use Rattle.wb_header.specs.declared.checking.Refused.{Refused}
 use Rattle.wb_super.specs.Superblock.{record_of}
-use Rattle.wb_super.specs.Recording.{RecordsOrNot}
 use Rattle.wb_crash.specs.Chain.{IsRun, IsChain}
 use Rattle.wb_replay.specs.Replaying.{PutsSome, RefusesSlot}
 use Rattle.wb_replay.specs.declared.following.Followed.{Followed}

@@ -6,10 +6,12 @@
 #![tactic(auto)]
 
 mod following;
+mod law;
 mod recovering;
 mod replaying;
 mod settling;
 
+pub use law::always_makes;
 pub use recovering::{RecoverStop, recover};
 pub use replaying::{Recovery, ReplayStop, replay};
 

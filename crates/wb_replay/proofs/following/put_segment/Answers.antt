@@ -1,5 +1,5 @@
 -- The slot is read, checked, and put or refused.
-use Rattle.std.proofs.Common.{◌∙◌, inl, inr, refl, sym, arith}
+use Rattle.std.proofs.Common.{◌∙◌, inr, refl, sym}
 use Rattle.wb_header.specs.Text.{length_in, blocks_in}
 use Rattle.wb_replay.proofs.Strays.{done_is}
 use Rattle.wb_replay.proofs.Counts.{counts_never, counts_failed}

@@ -1,12 +1,12 @@
 -- The superblock is judged, a slot's memory taken, and the log replayed.
 use Rattle.std.proofs.Common.{ℕ, ◌∙◌, Err, ap, sym, subst}
 use Rattle.std.proofs.lemmas.Result.{err_from_is_err_and}
-use Rattle.wb_replay.specs.Stopping.{MayRecover, RefusesRecovery, IsBehindSuper, CallsFew, stop_of}
+use Rattle.wb_replay.specs.Stopping.{MayRecover, RefusesRecovery}
 use Rattle.wb_replay.specs.declared.recovering.RecoverStop.{RecoverStop}
 use Rattle.wb_replay.specs.declared.recovering.RecoverStop.TheVariants as cause
 use Rattle.wb_replay.proofs.Turns.{at_err}
 use Rattle.wb_replay.proofs.Leavings.{crash_of, contents_of, left_of}
-use Rattle.wb_replay.proofs.Judged.{super_read, goes_judged, goes_unjudged, tells_judged, all_put_judged, records_judged, fresh_judged, refuses_judged, calls_judged, calls_unjudged}
+use Rattle.wb_replay.proofs.Judged.{goes_judged, goes_unjudged, tells_judged, all_put_judged, records_judged, fresh_judged, refuses_judged, calls_judged, calls_unjudged}
 use Rattle.wb_replay.proofs.recovering.recover.Goals as goal
 
 -- the superblock is refused, or the backing device is too small
