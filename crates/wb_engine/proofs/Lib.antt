@@ -13,7 +13,6 @@ pub mod Logging
 pub mod Openings
 pub mod Places
 pub mod Plannings
-pub mod Preparings
 pub mod ReadBack
 pub mod ReadLoops
 pub mod Recordings
@@ -21,7 +20,6 @@ pub mod Records
 pub mod SectorReads
 pub mod Standings
 pub mod Steps
-pub mod Strays
 pub mod Syncing
 pub mod Turns
 pub mod Voids

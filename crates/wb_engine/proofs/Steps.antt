@@ -18,7 +18,7 @@ use Rattle.wb_engine.proofs.Records.{IsOldOrNext}
 
 -- ---- contents
 
-told_content : {X : Type 0} (o : Option X) → IsSome o → (x : X) × (o ≡ Some x)
+pub told_content : {X : Type 0} (o : Option X) → IsSome o → (x : X) × (o ≡ Some x)
 told_content (Some x) some = (x, refl)
 told_content None some = absurd (true≢false (sym some))
 

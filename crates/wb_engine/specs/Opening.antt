@@ -1,15 +1,23 @@
--- Why an engine isn't opened, and what it is once it was.
-use Rattle.std.specs.Prelude.{ℕ, ◌≡◌, ◌+◌, ◌-◌, ◌*◌, ◌<◌, ◌≤◌, ◌^◌, IfSome, None, List, [], length}
+-- Why an engine isn't opened, what recovery did then, and what an engine is once it was opened.
+use Rattle.std.specs.Prelude.{ℕ, ◌≡◌, ◌⊎◌, ◌+◌, ◌-◌, ◌*◌, ◌<◌, ◌≤◌, ◌^◌, IsSome, None, Some, List, [], length}
 use Rattle.wb_geometry.specs.Image.{Image}
-use Rattle.wb_geometry.specs.Device.{State, Passes, NothingPending, IsSameDevice}
+use Rattle.wb_geometry.specs.Device.{State, ContentPasses, NothingPending, OnlyRead, IsUncalled, IsSameDevice}
 use Rattle.wb_geometry.specs.Layout.{places, slot_sectors}
 use Rattle.wb_geometry.specs.declared.geometry.Geometry.{Geometry}
 use Rattle.wb_super.specs.Found.{IsSuper, Refuses}
-use Rattle.wb_super.specs.Superblock.{header_id}
+use Rattle.wb_super.specs.Recording.{Records}
 use Rattle.wb_super.specs.declared.reading.Super.{Super}
+use Rattle.wb_super.specs.declared.reading.SuperRefused.TheVariants.{Fault}
+use Rattle.wb_crash.specs.Crash.{CrashInRecover, MakesOfContents}
 use Rattle.wb_crash.specs.Numbers.{all_at}
+use Rattle.wb_crash.specs.Safety.{IsFresh}
+use Rattle.wb_replay.specs.Replaying.{GoesInTurn, IsAllPut, MakesOf}
+use Rattle.wb_replay.specs.Stopping.{HasNoStray, RefusesSlots, StopsInTurn}
+use Rattle.wb_replay.specs.declared.replaying.ReplayStop.{ReplayStop}
+use Rattle.wb_replay.specs.declared.replaying.ReplayStop.TheVariants as stop
 use Rattle.wb_memory.specs.Memory.{MemoryContent}
 use Rattle.wb_engine.specs.Content.{EngineContent}
+use Rattle.wb_engine.specs.Standing.{Standing, Told, IsSynced}
 use Rattle.wb_engine.specs.declared.opening.OpenCause.{OpenCause}
 use Rattle.wb_engine.specs.declared.opening.OpenCause.TheVariants as cause
 
@@ -23,86 +31,99 @@ pub record MayOpen (log : State) (has : ℕ) (found : Super) : Type 0 where
   pub ids : found.recorded ≤ most_recorded found.geometry.slots
   pub fits : found.geometry.backing_sectors ≤ has
 
--- no slot has an id above the record
-abbrev pub HasNoStray : Geometry → (recorded : ℕ) → State → Type 0
-HasNoStray g recorded log = IfSome log.content (λ x. (slot : ℕ) → slot < g.slots → header_id g x slot ≤ recorded)
+-- the record once a log with this superblock is recovered, behind which the ids of the session begin
+abbrev pub recovered_to : Super → ℕ
+recovered_to found = found.recorded + found.geometry.slots
 
--- the slot is the first whose id is above the record; where the log failed nothing is said of the ids
-abbrev pub RefusesSlots : Geometry → (recorded : ℕ) → State → OpenCause → Type 0
-RefusesSlots g recorded log (cause.Stray slot id) = (slot < g.slots) × (recorded < id)
-    × IfSome log.content (λ x. (header_id g x slot ≡ id) × ((earlier : ℕ) → earlier < slot → header_id g x earlier ≤ recorded))
-RefusesSlots g recorded log cause.LogFault = Unit {0}
-RefusesSlots g recorded log (cause.Super refused) = ⊥
-RefusesSlots g recorded log (cause.IdsSpent found) = ⊥
-RefusesSlots g recorded log (cause.Backing needs has) = ⊥
-RefusesSlots g recorded log cause.Memory = ⊥
-RefusesSlots g recorded log cause.BackingFault = ⊥
+-- What a recovery by this superblock did to both devices, wherever it ended: where the log tells its content nothing but the
+-- record changed there, and that not before all was put. So a crash in its course, and recovery of the contents behind it,
+-- make what it would have made.
+pub record Goes (found : Super) (log new_log backing new_backing : State) : Type 0 where
+  pub may : MayOpen log backing.sectors found
+  pub in_turn : (x : Image) → log.content ≡ Some x → GoesInTurn found.geometry x log new_log backing new_backing
+  pub crash : (x y z : Image) → MakesOf found.geometry x y z log backing → NothingPending log → NothingPending backing
+      → CrashInRecover found.geometry x z log new_log backing new_backing
+  pub contents : (x y z : Image) → MakesOf found.geometry x y z log backing → MakesOfContents found.geometry z new_log new_backing
+  pub same_log : IsSameDevice log new_log
+  pub same_backing : IsSameDevice backing new_backing
 
--- Why the engine isn't opened: the first of these causes that applies. Want of memory has no cause.
-abbrev pub RefusesOpening : (log : State) (has : ℕ) → OpenCause → Type 0
-RefusesOpening log has (cause.Super refused) = Refuses log refused
-RefusesOpening log has (cause.IdsSpent recorded) = (found : Super) × IsSuper log found × (found.recorded ≡ recorded)
-    × (most_recorded found.geometry.slots < recorded)
-RefusesOpening log has (cause.Backing needs found_has) = (found : Super) × IsSuper log found × (found.recorded ≤ most_recorded found.geometry.slots)
-    × (needs ≡ found.geometry.backing_sectors) × (found_has ≡ has) × (has < needs)
-RefusesOpening log has cause.Memory = Unit {0}
-RefusesOpening log has cause.LogFault = (found : Super) × MayOpen log has found
-RefusesOpening log has cause.BackingFault = (found : Super) × MayOpen log has found
-RefusesOpening log has (cause.Stray slot id) = (found : Super) × MayOpen log has found × RefusesSlots found.geometry found.recorded log (cause.Stray slot id)
+-- It ended well: the backing device has what recovery makes of its content, the log has the new record, with which an engine
+-- may begin, and a crash leaves both so.
+pub record HasRecovered (found : Super) (log new_log backing new_backing : State) : Type 0 where
+  pub went : Goes found log new_log backing new_backing
+  pub no_stray : HasNoStray found.geometry (recovered_to found) log
+  pub all_put : (x : Image) → log.content ≡ Some x → IsAllPut found.geometry x backing new_backing
+  pub records : ContentPasses (Records (recovered_to found)) log new_log
+  pub fresh : (x : Image) → new_log.content ≡ Some x → IsFresh found.geometry (recovered_to found) x
+  pub durable : NothingPending new_log × NothingPending new_backing
 
--- the cause comes before either device is synced
-abbrev pub IsEarly : OpenCause → Type 0
-IsEarly (cause.Super refused) = Unit {0}
-IsEarly (cause.IdsSpent recorded) = Unit {0}
-IsEarly (cause.Backing needs has) = Unit {0}
-IsEarly cause.Memory = Unit {0}
-IsEarly cause.LogFault = ⊥
-IsEarly cause.BackingFault = ⊥
-IsEarly (cause.Stray slot id) = ⊥
-
--- the log was synced before the backing device, and both before the ids of the slots were read
-abbrev pub IsLate : OpenCause → (log backing : State) → Type 0
-IsLate cause.BackingFault log backing = NothingPending log
-IsLate (cause.Stray slot id) log backing = NothingPending log × NothingPending backing
-IsLate cause.LogFault log backing = Unit {0}
-IsLate (cause.Super refused) log backing = Unit {0}
-IsLate (cause.IdsSpent recorded) log backing = Unit {0}
-IsLate (cause.Backing needs has) log backing = Unit {0}
-IsLate cause.Memory log backing = Unit {0}
-
--- the device was read and synced at most
-pub record IsOnlySynced (old new : State) : Type 0 where
-  pub content : new.content ≡ old.content
-  pub crash : Passes (λ x y. y ≡ x) old new
-  pub same : IsSameDevice old new
-
--- an engine that was just opened: the superblock's, with nothing absorbed
-pub record IsOpened {L B : Type 0} (log : State) (e : EngineContent L B) : Type 0 where
+-- It stopped, for a slot or by a device.
+pub record HasStopped (why : ReplayStop) (log new_log backing new_backing : State) : Type 0 where
   pub found : Super
-  pub super : IsSuper log found
-  pub ids : found.recorded ≤ most_recorded found.geometry.slots
-  pub no_stray : HasNoStray found.geometry found.recorded log
-  pub geometry : e.geometry ≡ found.geometry
-  pub numbers : e.numbers ≡ all_at found.recorded
-  pub absorbed : e.absorbed ≡ 0
-  pub up : e.down ≡ None
+  pub went : Goes found log new_log backing new_backing
+  pub refused : RefusesSlots found.geometry (recovered_to found) log why
+  pub so_far : StopsInTurn why log new_log backing new_backing
+
+-- nothing was done but that the log was read
+pub record IsUnbegun (log new_log backing new_backing : State) : Type 0 where
+  pub only_read : OnlyRead log new_log
+  pub uncalled : IsUncalled backing new_backing
+
+-- Why it isn't opened, before recovery is begun: the first of these causes that applies. Want of memory has none.
+abbrev pub RefusesLog : (log : State) (has : ℕ) → OpenCause → Type 0
+RefusesLog log has (cause.Super refused) = Refuses log refused
+RefusesLog log has (cause.IdsSpent recorded) = (found : Super) × IsSuper log found × (found.recorded ≡ recorded)
+    × (most_recorded found.geometry.slots < recorded)
+RefusesLog log has (cause.Backing needs found_has) = (found : Super) × IsSuper log found × (found.recorded ≤ most_recorded found.geometry.slots)
+    × (needs ≡ found.geometry.backing_sectors) × (found_has ≡ has) × (has < needs)
+RefusesLog log has cause.Memory = Unit {0}
+RefusesLog log has cause.LogFault = ⊥
+RefusesLog log has cause.BackingFault = ⊥
+RefusesLog log has (cause.Stray slot id) = ⊥
+
+-- the cause of a recovery that stopped
+abbrev pub cause_of : ReplayStop → OpenCause
+cause_of (stop.Stray slot id) = cause.Stray slot id
+cause_of stop.LogFault = cause.LogFault
+cause_of stop.BackingFault = cause.BackingFault
+
+-- why the engine isn't opened, and what was done: recovery wasn't begun, or it stopped
+abbrev pub RefusesOpening : OpenCause → (log new_log backing new_backing : State) → Type 0
+RefusesOpening why log new_log backing new_backing = (RefusesLog log backing.sectors why × IsUnbegun log new_log backing new_backing)
+    ⊎ ((stopped : ReplayStop) × (why ≡ cause_of stopped) × HasStopped stopped log new_log backing new_backing)
+
+-- the cause says that the log failed
+abbrev pub SaysLog : OpenCause → Type 0
+SaysLog why = (why ≡ cause.Super Fault) ⊎ (why ≡ cause.LogFault)
 
 -- the image is the only one that is told, if any is
 pub record IsOnly (base : Image) (Tells : Image → Type 0) : Type 0 where
   pub only : (y : Image) → Tells y → y ≡ base
 
+-- An engine that was just opened over these devices: they are recovered, its numbers begin at the record, and it stands for
+-- what is on the backing device now, with nothing absorbed.
+pub record IsOpened {L B : Type 0} (of_log : L → State) (of_backing : B → State) (log backing : State) (e : EngineContent L B) : Type 0 where
+  pub found : Super
+  pub recovered : HasRecovered found log (of_log e.log) backing (of_backing e.backing)
+  pub geometry : e.geometry ≡ found.geometry
+  pub numbers : e.numbers ≡ all_at (recovered_to found)
+  pub absorbed : e.absorbed ≡ 0
+  pub up : e.down ≡ None
+  pub stands : (base : Image) → IsOnly base (Told (of_backing e.backing)) → IsSome log.content → Standing of_log of_backing e base []
+  pub synced : IsSynced of_log of_backing e
+  pub log_faults : (of_log e.log).faults ≡ log.faults
+  pub backing_faults : (of_backing e.backing).faults ≡ backing.faults
+
 -- what is ready for an engine over a log with this superblock
-pub record IsOpenedFor (found : Super) (has : ℕ) (g : Geometry) (recorded : ℕ) (memory : MemoryContent) (plan_room : ℕ) (bytes : List ℕ) : Type 0 where
-  pub ids : found.recorded ≤ most_recorded found.geometry.slots
-  pub fits : found.geometry.backing_sectors ≤ has
+pub record IsReady (found : Super) (g : Geometry) (recorded : ℕ) (memory : MemoryContent) (plan_room : ℕ) (bytes : List ℕ) : Type 0 where
   pub geometry : g ≡ found.geometry
-  pub number : recorded ≡ found.recorded
+  pub number : recorded ≡ recovered_to found
   pub each : memory.places ≡ places g
   pub segments : memory.segments ≡ g.ram
   pub slots : memory.logged.slots ≡ g.slots
   pub kept : memory.logged.kept ≡ []
   pub sealed : memory.sealed ≡ []
-  pub id : memory.current.id ≡ found.recorded + 1
+  pub id : memory.current.id ≡ recovered_to found + 1
   pub blocks : memory.current.blocks ≡ []
   pub plan : places g ≤ plan_room
   pub scratch : length bytes ≡ 512 * slot_sectors g

@@ -1,13 +1,10 @@
-//! Opening an engine over its two devices.
-ghost use Rattle.std.specs.Prelude.{◌≡◌, ◌⊎◌, ◌≤◌, ◌<◌, ℕ, [], Err, IsSome, IfOk, IfErr};
-ghost use Rattle.wb_super.specs.Found.{IsSuper};
-ghost use Rattle.wb_geometry.specs.Image.{Image};
-ghost use Rattle.wb_geometry.specs.Layout.{log_sectors};
-ghost use Rattle.wb_geometry.specs.Device.{OnlyRead, NothingPending, CountsFaultsWhere};
+//! Opening an engine over its two devices, which recovers them first.
+ghost use Rattle.std.specs.Prelude.{◌≡◌, ◌≤◌, ◌<◌, ℕ, Err, IfOk, IfErr};
+ghost use Rattle.wb_geometry.specs.Device.{OnlyRead, CountsFaultsWhere};
+ghost use Rattle.wb_super.specs.declared.reading.Super.{Super};
 ghost use Rattle.wb_super.specs.declared.reading.SuperRefused.TheVariants.{Fault};
 ghost use Rattle.wb_crash.specs.Numbers.{all_at};
-ghost use Rattle.wb_engine.specs.Standing.{Standing, Told, IsSynced};
-ghost use Rattle.wb_engine.specs.Opening.{IsOpened, IsOnly, IsOnlySynced, HasNoStray, RefusesSlots, RefusesOpening, IsEarly, IsLate, MayOpen, IsOpenedFor, most_recorded};
+ghost use Rattle.wb_engine.specs.Opening.{IsOpened, HasRecovered, IsReady, RefusesLog, RefusesOpening, SaysLog, MayOpen, cause_of, most_recorded};
 
 use crate::engine::Engine;
 use std::alloc::{AllocError, Global};
@@ -15,8 +12,8 @@ use wb_back::Plan;
 use wb_crash::Numbers;
 use wb_device::Device;
 use wb_geometry::Geometry;
-use wb_header::header_id;
 use wb_memory::Memory;
+use wb_replay::{ReplayStop, replay};
 use wb_super::{Super, SuperRefused, read_super};
 
 /// Why an engine wasn't opened: the first of these causes that applies, in this order.
@@ -30,15 +27,16 @@ pub enum OpenCause {
     Backing { needs: u64, has: u64 },
     /// There was no memory for the engine. Neither device was written or synced.
     Memory,
-    /// The log failed as it was synced, or as the ids of its slots were read.
+    /// The log failed as it was recovered. It can be opened again.
     LogFault,
-    /// The backing device failed as it was synced.
+    /// The backing device failed as it was recovered. It can be opened again.
     BackingFault,
-    /// The id in a slot, counted from 0, is above the record; it is the least such slot.
+    /// The id in a slot, counted from 0, is too high for this log: above the record and the number of slots. It is the
+    /// least such slot. Neither device was written.
     Stray { slot: u32, id: u64 },
 }
 
-/// An engine that wasn't opened: the devices, given back, and why. Neither was written.
+/// An engine that wasn't opened: the devices, given back, and why.
 #[derive(Drop)]
 pub struct OpenStop<L: Device, B: Device> {
     pub log: L,
@@ -63,22 +61,14 @@ struct Opened {
 }
 
 impl<L: Device, B: Device> Engine<L, B> {
-    /// Opens a cache over a log and the backing device that it stands before. The superblock is read and judged, all the
-    /// memory that the engine ever needs is taken, both devices are synced, and the ids of all slots are read, none of
-    /// which may be above the record. Neither device is written.
+    /// Opens a cache over a log and the backing device that it stands before. The superblock is read and judged, and all
+    /// the memory that the engine ever needs is taken. Then what the log has behind its record is recovered: it is put to
+    /// the backing device, which is synced, and the record is raised behind all slots (docs/CRASH.md). The ids of the
+    /// session begin there.
     pub fn open(alloc: Global, log: L, backing: B) -> Result<Engine<L, B>, OpenStop<L, B>>
-        ensures fresh { IfOk result (IsOpened (L.state log)) }
-        ensures stands { IfOk result (λ e. (base : Image) → IsOnly base (Told (B.state backing)) → IsSome (L.state log).content
-            → Standing L.state B.state e base []) }
-        ensures synced { IfOk result (λ e. IsSynced L.state B.state e) }
-        ensures log { IfOk result (λ e. IsOnlySynced (L.state log) (L.state e.log) × ((L.state e.log).faults ≡ (L.state log).faults)) }
-        ensures backing { IfOk result (λ e. IsOnlySynced (B.state backing) (B.state e.backing) × ((B.state e.backing).faults ≡ (B.state backing).faults)) }
-        ensures refused { IfErr result (λ stop. RefusesOpening (L.state log) (B.state backing).sectors stop.cause) }
-        ensures early { IfErr result (λ stop. IsEarly stop.cause → OnlyRead (L.state log) (L.state stop.log) × (stop.backing ≡ backing)) }
-        ensures late { IfErr result (λ stop. IsLate stop.cause (L.state stop.log) (B.state stop.backing) × (stop.cause ≡ OpenCause.LogFault → (stop.backing ≡ backing) ⊎ (NothingPending (L.state stop.log) × NothingPending (B.state stop.backing)))) }
-        ensures stop_log { IfErr result (λ stop. IsOnlySynced (L.state log) (L.state stop.log)) }
-        ensures stop_backing { IfErr result (λ stop. IsOnlySynced (B.state backing) (B.state stop.backing)) }
-        ensures log_cause { IfErr result (λ stop. CountsFaultsWhere ((stop.cause ≡ OpenCause.Super Fault) ⊎ (stop.cause ≡ OpenCause.LogFault)) (L.state log).faults (L.state stop.log).faults) }
+        ensures opened { IfOk result (IsOpened L.state B.state (L.state log) (B.state backing)) }
+        ensures refused { IfErr result (λ stop. RefusesOpening stop.cause (L.state log) (L.state stop.log) (B.state backing) (B.state stop.backing)) }
+        ensures log_cause { IfErr result (λ stop. CountsFaultsWhere (SaysLog stop.cause) (L.state log).faults (L.state stop.log).faults) }
         ensures backing_cause { IfErr result (λ stop. CountsFaultsWhere (stop.cause ≡ OpenCause.BackingFault) (B.state backing).faults (B.state stop.backing).faults) }
     {
         let mut log = log;
@@ -104,44 +94,35 @@ impl<L: Device, B: Device> Engine<L, B> {
     }
 }
 
-/// The superblock, judged, and the memory for its geometry; then both devices, synced, and the ids of the slots, none above
-/// the record.
+/// The superblock, judged, and the memory for its geometry; and then both devices, recovered.
 fn prepare<L: Device, B: Device>(
     alloc: Global,
     log: &mut L,
     backing: &mut B,
 ) -> Result<Opened, OpenCause>
-    ensures opened { IfOk result (λ o. (found : Super) × IsSuper (L.state log.old) found
-        × IsOpenedFor found (B.state backing.old).sectors o.geometry o.recorded o.memory o.plan.room o.scratch.items) }
-    ensures no_stray { IfOk result (λ o. HasNoStray o.geometry o.recorded (L.state log.old)) }
-    ensures settled { IfOk result (λ o. NothingPending (L.state log.new) × NothingPending (B.state backing.new)) }
-    ensures refused { IfErr result (RefusesOpening (L.state log.old) (B.state backing.old).sectors) }
-    ensures early { IfErr result (λ cause. IsEarly cause → OnlyRead (L.state log.old) (L.state log.new) × (backing.new ≡ backing.old)) }
-    ensures late { IfErr result (λ cause. IsLate cause (L.state log.new) (B.state backing.new) × (cause ≡ OpenCause.LogFault → (backing.new ≡ backing.old) ⊎ (NothingPending (L.state log.new) × NothingPending (B.state backing.new)))) }
-    ensures log { IsOnlySynced (L.state log.old) (L.state log.new) }
-    ensures backing { IsOnlySynced (B.state backing.old) (B.state backing.new) }
-    ensures log_cause { CountsFaultsWhere ((result ≡ Err (OpenCause.Super Fault)) ⊎ (result ≡ Err OpenCause.LogFault)) (L.state log.old).faults (L.state log.new).faults }
-    ensures backing_cause { CountsFaultsWhere (result ≡ Err OpenCause.BackingFault) (B.state backing.old).faults (B.state backing.new).faults }
+    ensures ready { IfOk result (λ o. (found : Super)
+        × HasRecovered found (L.state log.old) (L.state log.new) (B.state backing.old) (B.state backing.new)
+        × IsReady found o.geometry o.recorded o.memory o.plan.room o.scratch.items) }
+    ensures refused { IfErr result (λ cause. RefusesOpening cause (L.state log.old) (L.state log.new) (B.state backing.old) (B.state backing.new)) }
+    ensures log_faults { IfOk result (λ o. (L.state log.new).faults ≡ (L.state log.old).faults) }
+    ensures backing_faults { IfOk result (λ o. (B.state backing.new).faults ≡ (B.state backing.old).faults) }
+    ensures log_cause { IfErr result (λ cause. CountsFaultsWhere (SaysLog cause) (L.state log.old).faults (L.state log.new).faults) }
+    ensures backing_cause { IfErr result (λ cause. CountsFaultsWhere (cause ≡ OpenCause.BackingFault) (B.state backing.old).faults (B.state backing.new).faults) }
 {
     let found = judge(log, backing.sectors())?;
-    let Ok(opened) = take_memory(alloc, &found) else {
+    let Ok(mut opened) = take_memory(alloc, &found) else {
         return Err(OpenCause::Memory);
     };
-    if log.sync().is_err() {
-        return Err(OpenCause::LogFault);
+    match replay(log, backing, &found, &mut opened.scratch) {
+        Ok(_) => Ok(opened),
+        Err(stop) => Err(cause_of(stop)),
     }
-    if backing.sync().is_err() {
-        return Err(OpenCause::BackingFault);
-    }
-    refuse_stray(log, &found.geometry, found.recorded)?;
-    Ok(opened)
 }
 
 /// The superblock, where it is good, its record leaves ids for a session, and the backing device has its sectors.
 fn judge<L: Device>(log: &mut L, has: u64) -> Result<Super, OpenCause>
     ensures found { IfOk result (MayOpen (L.state log.old) has) }
-    ensures refused { IfErr result (RefusesOpening (L.state log.old) has) }
-    ensures early { IfErr result IsEarly }
+    ensures refused { IfErr result (RefusesLog (L.state log.old) has) }
     ensures only_read { OnlyRead (L.state log.old) (L.state log.new) }
     ensures cause { CountsFaultsWhere (result ≡ Err (OpenCause.Super Fault)) (L.state log.old).faults (L.state log.new).faults }
 {
@@ -159,44 +140,34 @@ fn judge<L: Device>(log: &mut L, has: u64) -> Result<Super, OpenCause>
     Ok(found)
 }
 
-/// The memory of an engine of this geometry.
+/// The memory of an engine of this geometry, whose ids begin behind the record of the recovered log.
 fn take_memory(alloc: Global, found: &Super) -> Result<Opened, AllocError>
     requires ids { found.now.recorded ≤ most_recorded found.now.geometry.slots }
-    ensures { (has : ℕ) → found.now.geometry.backing_sectors ≤ has → IfOk result (λ o. IsOpenedFor found.now has o.geometry o.recorded o.memory o.plan.room o.scratch.items) }
+    ensures { IfOk result (λ o. IsReady found.now o.geometry o.recorded o.memory o.plan.room o.scratch.items) }
 {
     let geometry = found.geometry;
-    let memory = Memory::new(alloc, &geometry, found.recorded)?;
+    let recorded = found.recorded + u64::from(geometry.slots);
+    let memory = Memory::new(alloc, &geometry, recorded)?;
     let plan = Plan::new(alloc, geometry.places() as usize)?;
     let scratch = vec![in alloc; 0; SECTOR_BYTES * geometry.slot_sectors() as usize]?;
     Ok(Opened {
         geometry,
-        recorded: found.recorded,
+        recorded,
         memory,
         plan,
         scratch,
     })
 }
 
-/// Reads the id of each slot, and refuses the first that is above the record.
-fn refuse_stray<L: Device>(log: &mut L, geometry: &Geometry, recorded: u64) -> Result<(), OpenCause>
-    requires { log_sectors geometry.now ≤ (L.state log.old).sectors }
-    ensures no_stray { IfOk result (λ done. HasNoStray geometry.now recorded (L.state log.old)) }
-    ensures refused { IfErr result (RefusesSlots geometry.now recorded (L.state log.old)) }
-    ensures only_read { OnlyRead (L.state log.old) (L.state log.new) }
-    ensures cause { CountsFaultsWhere (result ≡ Err OpenCause.LogFault) (L.state log.old).faults (L.state log.new).faults }
+/// Why the engine isn't opened where its recovery stopped.
+fn cause_of(stop: ReplayStop) -> OpenCause
+    ensures { result ≡ cause_of stop }
 {
-    let mut sector = [0; SECTOR_BYTES];
-    for slot in 0..geometry.slots {
-        let start = geometry.slot_start(u64::from(slot) + 1);
-        if log.read(start, &mut sector).is_err() {
-            return Err(OpenCause::LogFault);
-        }
-        let id = header_id(&sector);
-        if id > recorded {
-            return Err(OpenCause::Stray { slot, id });
-        }
+    match stop {
+        ReplayStop::Stray { slot, id } => OpenCause::Stray { slot, id },
+        ReplayStop::LogFault => OpenCause::LogFault,
+        ReplayStop::BackingFault => OpenCause::BackingFault,
     }
-    Ok(())
 }
 
 /// All numbers are this one.

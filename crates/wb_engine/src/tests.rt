@@ -7,6 +7,7 @@ mod calls;
 mod faults;
 mod listed;
 mod opening;
+mod recovered;
 mod slots;
 
 use crate::{Engine, Turn};
@@ -29,6 +30,9 @@ const FORMER: u8 = 100;
 
 /// The record that the log begins with.
 const FIRST: u32 = 7;
+
+/// The record once a cache was opened over it: behind all four slots. The session's first segment is the next.
+const OPENED: u32 = FIRST + 4;
 
 /// A log of so many sectors, which is formatted for four slots of order 5, where there is a record.
 fn log_of(alloc: Global, sectors: u32, recorded: Option<u64>) -> Result<SteadyDevice, Fail> {

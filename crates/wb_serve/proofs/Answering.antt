@@ -25,8 +25,8 @@ use Rattle.wb_script.specs.declared.transcript.Stop.TheVariants.{Whole, Down, Id
 use Rattle.wb_engine.specs.Content.{EngineContent}
 use Rattle.wb_engine.specs.Standing.{Standing, Told}
 use Rattle.wb_serve.specs.declared.playing.Played.{Played}
-use Rattle.wb_serve.specs.Session.{HasStop, told_with, base_of}
-use Rattle.wb_serve.specs.Playing.{HasMoved, HasCome, StandsOver, IsStoppedBy, IsStoppedDown, IsDownBy, AreSpent, TakesPlace, wrote, IsAnswered, IsPlayed, IsPlayedInPart, is_stopped_line}
+use Rattle.wb_serve.specs.Session.{HasStop}
+use Rattle.wb_serve.specs.Playing.{HasMoved, HasCome, StandsOver, IsTold, IsStoppedBy, IsStoppedDown, IsDownBy, AreSpent, TakesPlace, wrote, IsAnswered, IsPlayed, IsPlayedInPart, is_stopped_line}
 use Rattle.wb_serve.proofs.Moves.{down_stays, told_base, come_more}
 use Rattle.wb_serve.proofs.Rooms.{all_full}
 
@@ -123,20 +123,12 @@ module _ {L B : Type 0} {of_log : L → State} {of_backing : B → State} where
 
   -- ---- requests so far
 
-  over_told : {start e : EngineContent L B} {h : List HistoryEntry} {m n : ℕ} → HasCome of_log of_backing start e h m n
-      → (first second : Option Image) → (of_log start.log).content ≡ first → (of_backing start.backing).content ≡ second
-      → IfSome (told_with first second) (λ base. ((image : Image) × Told (of_backing e.backing) image) × Standing of_log of_backing e base h)
-  over_told come None second tells is = tt
-  over_told come (Some x) None tells is = tt
-  over_told {start = start} come (Some x) (Some y) tells is =
-      let some : IsSome (of_log start.log).content = subst (λ (o : Option Image). IsSome o) (sym tells) refl in
-      let to = (come.changed some).told y is in
-      ((to.0, to.1), come.stands y (told_base (of_backing start.backing) y is) some)
-
-  pub stands_over : {start e : EngineContent L B} {h : List HistoryEntry} {m n : ℕ} → HasCome of_log of_backing start e h m n
-      → StandsOver of_log of_backing (base_of (of_log start.log) (of_backing start.backing)) e h
-  stands_over {start = start} come =
-      record { places = come.places; told = over_told come (of_log start.log).content (of_backing start.backing).content refl refl }
+  pub stands_over : {start e : EngineContent L B} {h : List HistoryEntry} {m n : ℕ} (content : Option Image) → HasCome of_log of_backing start e h m n
+      → IfSome content (IsTold of_log of_backing start) → StandsOver of_log of_backing content e h
+  stands_over None come told = record { places = come.places; told = tt }
+  stands_over {start = start} (Some base) come (some, told) =
+      let to = (come.changed some).told base told in
+      record { places = come.places; told = ((to.0, to.1), come.stands base (told_base (of_backing start.backing) base told) some) }
 
 -- ---- lines of a kind
 
@@ -249,11 +241,10 @@ module _ {L B : Type 0} {of_log : L → State} {of_backing : B → State} where
       let lines : List Line = played.transcript in
       let ids : Bool = played.ids in
       let es : List HistoryEntry = answered.entries in
-      let over = stands_over p.come in
-      let content : Option Image = base_of (of_log start.log) (of_backing start.backing) in
-      let same_length : length lines ≡ length requests = length-answers content h client nothing_seen requests lines p.answers in
+      let places_are = p.come.places in
+      let same_length : length lines ≡ length requests = length-answers None h client nothing_seen requests lines (p.answers None tt) in
       let seen : Seen = seen_after_all nothing_seen requests lines in
-      let low : seen.number ≤ e.absorbed = omega (arith, p.sees, over.places) in
+      let low : seen.number ≤ e.absorbed = omega (arith, p.sees, places_are) in
       let count : (which : Which) → failures which (lines ++ line ∷ []) ≡ failures which lines + is_failure which line = λ which. failures_push which lines line in
       record {
         come =
@@ -262,14 +253,15 @@ module _ {L B : Type 0} {of_log : L → State} {of_backing : B → State} where
         once =
             printed_push client requests lines request line same_length
             ∙ ap (λ (ps : List (ℕ × HistoryEntry)). ps ++ printed_line client request line) p.once
-            ∙ ap (λ (ps : List (ℕ × HistoryEntry)). enumerate_from 0 h ++ ps) (answered.once ∙ ap (λ (k : ℕ). enumerate_from k es) (sym over.places ∙ sym (zero-add (length h))))
+            ∙ ap (λ (ps : List (ℕ × HistoryEntry)). enumerate_from 0 h ++ ps) (answered.once ∙ ap (λ (k : ℕ). enumerate_from k es) (sym places_are ∙ sym (zero-add (length h))))
             ∙ sym (enumerate_from-append 0 h es);
         own = All-append (λ entry. client_of entry ≡ client) h es p.own answered.own;
-        answers = AnswersAll_push content (h ++ es) client nothing_seen requests lines request line
-            (AnswersAll-longer content h es client nothing_seen requests lines p.answers)
-            (answered.answers content h over seen low);
+        answers = λ content told.
+            AnswersAll_push content (h ++ es) client nothing_seen requests lines request line
+            (AnswersAll-longer content h es client nothing_seen requests lines (p.answers content told))
+            (answered.answers content h (stands_over content p.come told) seen low);
         sees = subst (λ (s : Seen). s.number ≤ length (h ++ es)) (sym (seen_push nothing_seen requests lines request line same_length))
-            (let sees = answered.sees seen low in omega (arith, sees, over.places, length-append h es));
+            (let sees = answered.sees seen low in omega (arith, sees, places_are, length-append h es));
         log_fails = λ failed. subst (λ (k : ℕ). 1 ≤ k) (sym (count Log)) (count_rose played.log_failed (failures Log lines) (is_failure Log line) p.log_fails failed);
         log_fine = λ fine. count Log ∙ count_kept played.log_failed (failures Log lines) (is_failure Log line) (failure_few Log line) p.log_fine fine;
         backing_fails = λ failed. subst (λ (k : ℕ). 1 ≤ k) (sym (count Backing)) (count_rose played.backing_failed (failures Backing lines) (is_failure Backing line) p.backing_fails failed);
@@ -327,7 +319,7 @@ module _ {L B : Type 0} {of_log : L → State} {of_backing : B → State} where
     come = come;
     once = refl;
     own = All-nil (λ entry. client_of entry ≡ client);
-    answers = tt;
+    answers = λ content told. tt;
     sees = omega arith;
     log_fails = λ is. absurd (cc);
     log_fine = λ is. refl;

@@ -1,5 +1,5 @@
 -- What a session leaves of both devices once its engine was closed.
-use Rattle.std.proofs.Common.{ℕ, ◌≡◌, ◌+◌, ◌-◌, ◌/◌, List, [], Option, Some, None, subst, arith}
+use Rattle.std.proofs.Common.{ℕ, ◌≡◌, ◌+◌, ◌-◌, ◌/◌, List, [], Option, Some, None, ap, ◌∙◌, subst, arith}
 use Rattle.std.specs.Option.{IsSome}
 use Rattle.std.proofs.lemmas.List.Elements.{All-contains_itself}
 use Rattle.wb_geometry.specs.Image.{Image}
@@ -19,8 +19,9 @@ use Rattle.wb_crash.specs.Crash.{CrashNow}
 use Rattle.wb_engine.specs.Content.{EngineContent}
 use Rattle.wb_engine.specs.Standing.{Standing, Told, IsSynced, line}
 use Rattle.wb_engine.specs.Closing.{last_id}
+use Rattle.wb_engine.specs.Opening.{recovered_to}
 use Rattle.wb_serve.specs.Session.{last_segment}
-use Rattle.wb_serve.specs.Playing.{HasCome}
+use Rattle.wb_serve.specs.Playing.{HasCome, IsTold}
 use Rattle.wb_serve.proofs.Moves.{a_base, told_base}
 use Rattle.wb_serve.proofs.Crashes.{crash_around}
 use Rattle.wb_serve.proofs.Faults.{FaultsEnd}
@@ -29,12 +30,12 @@ module _ {L B : Type 0} where
   -- the engine of a cache with this superblock, once so many places were taken
   pub record IsCacheOf (found : Super) (taken : ℕ) (e : EngineContent L B) : Type 0 where
     pub geometry : e.geometry ≡ found.geometry
-    pub first : e.numbers.first ≡ found.recorded
+    pub first : e.numbers.first ≡ recovered_to found
     pub absorbed : e.absorbed ≡ taken
 
-  told_of : (P : Geometry × ℕ × ℕ → Type 0) (found : Super) (taken : ℕ) (e : EngineContent L B) → IsCacheOf found taken e → P (e.geometry, e.numbers.first, e.absorbed) → P (found.geometry, found.recorded, taken)
+  told_of : (P : Geometry × ℕ × ℕ → Type 0) (found : Super) (taken : ℕ) (e : EngineContent L B) → IsCacheOf found taken e → P (e.geometry, e.numbers.first, e.absorbed) → P (found.geometry, recovered_to found, taken)
   told_of P found taken e cache holds =
-      let same : (e.geometry, e.numbers.first, e.absorbed) ≡ (found.geometry, found.recorded, taken) = cc (cache.geometry, cache.first, cache.absorbed) in
+      let same : (e.geometry, e.numbers.first, e.absorbed) ≡ (found.geometry, recovered_to found, taken) = cc (cache.geometry, cache.first, cache.absorbed) in
       subst P same holds
 
 -- what closing an engine left of both devices; this one failed, if one did
@@ -51,25 +52,20 @@ pub record Closes {L B : Type 0} (of_log : L → State) (of_backing : B → Stat
 
 module _ {L B : Type 0} {of_log : L → State} {of_backing : B → State} {fault : Option Which} {log_end backing_end : State} {start e : EngineContent L B} {h : List HistoryEntry}
     {log_fails backing_fails : ℕ} where
-  pub end_changed : HasCome of_log of_backing start e h log_fails backing_fails → Closes of_log of_backing fault log_end backing_end e
-      → IsSome (of_log start.log).content → ContentPasses (PutsPartly h) (of_backing start.backing) backing_end
-  end_changed come closes some =
-      let base = a_base (of_backing start.backing) in
-      content_joined (λ x y z told first second. puts_then h h x y z (All-contains_itself h) first second) (come.changed some) (closes.changed base.0 h (come.stands base.0 base.1 some))
+  pub end_changed : (base : Image) → HasCome of_log of_backing start e h log_fails backing_fails → Closes of_log of_backing fault log_end backing_end e
+      → IsTold of_log of_backing start base → (image : Image) × (backing_end.content ≡ Some image) × PutsPartly h base image
+  end_changed base come closes tells =
+      let stands = come.stands base (told_base (of_backing start.backing) base tells.1) tells.0 in
+      let to = (come.changed tells.0).told base tells.1 in
+      let end = (closes.changed base h stands).told to.0 to.1 in
+      (end.0, end.1, puts_then h h base to.0 end.0 (All-contains_itself h) to.2 end.2)
 
   -- the whole history is put where nothing failed
-  pub end_content : HasCome of_log of_backing start e h log_fails backing_fails → Closes of_log of_backing fault log_end backing_end e
-      → IsSome (of_log start.log).content → fault ≡ None → ContentPasses (λ base image. image ≡ after base h) (of_backing start.backing) backing_end
-  end_content come closes some none =
-      let changed = end_changed come closes some in
-      record {
-        told = λ x is.
-            let to = changed.told x is in
-            (to.0, to.1, closes.content none x h (come.stands x (told_base (of_backing start.backing) x is) some) to.0 to.1);
-        from = λ y is.
-            let by = changed.from y is in
-            (by.0, by.1, closes.content none by.0 h (come.stands by.0 (told_base (of_backing start.backing) by.0 by.1) some) y is);
-      }
+  pub end_content : (base : Image) → HasCome of_log of_backing start e h log_fails backing_fails → Closes of_log of_backing fault log_end backing_end e
+      → IsTold of_log of_backing start base → fault ≡ None → backing_end.content ≡ Some (after base h)
+  end_content base come closes tells none =
+      let changed = end_changed base come closes tells in
+      changed.1 ∙ ap (λ (x : Image). Some x) (closes.content none base h (come.stands base (told_base (of_backing start.backing) base tells.1) tells.0) changed.0 changed.1)
 
   -- and recorded, so that the log has nothing for recovery
   pub end_empty : (found : Super) (taken : ℕ) → IsCacheOf found taken e
@@ -84,10 +80,10 @@ module _ {L B : Type 0} {of_log : L → State} {of_backing : B → State} {fault
   -- what a crash then leaves, from the record at the start to the last segment
   pub end_crash : (found : Super) (taken : ℕ) (base : Image) → IsCacheOf found taken e
       → HasCome of_log of_backing start e h log_fails backing_fails → Closes of_log of_backing fault log_end backing_end e
-      → IsSome (of_log start.log).content → (of_backing start.backing).content ≡ Some base
-      → CrashNow found.geometry (line_of (places found.geometry) found.recorded base h) found.recorded (last_segment found taken) log_end backing_end
-  end_crash found taken base cache come closes some told =
-      let stands = come.stands base (told_base (of_backing start.backing) base told) some in
+      → IsTold of_log of_backing start base
+      → CrashNow found.geometry (line_of (places found.geometry) (recovered_to found) base h) (recovered_to found) (last_segment found taken) log_end backing_end
+  end_crash found taken base cache come closes tells =
+      let stands = come.stands base (told_base (of_backing start.backing) base tells.1) tells.0 in
       let ordered = stands.safe.ordered in
       let P : Geometry × ℕ × ℕ → Type 0 = λ t. CrashNow t.0 (line_of (places t.0) t.1 base h) t.1 (t.1 + (t.2 + places t.0 - 1) / places t.0) log_end backing_end in
       let was : P (e.geometry, e.numbers.first, e.absorbed) = crash_around e.numbers.first (last_id e) (omega (arith, ordered.start, ordered.recorded, ordered.back)) (omega arith) (closes.crash base h stands) in

@@ -2,7 +2,6 @@ pub mod Moves
 pub mod Rooms
 pub mod Entries
 pub mod Answering
-pub mod Bases
 pub mod Crashes
 pub mod Faults
 pub mod Openings

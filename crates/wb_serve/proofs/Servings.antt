@@ -23,17 +23,17 @@ use Rattle.wb_script.specs.declared.transcript.Line.{Line}
 use Rattle.wb_script.specs.declared.transcript.Stop.TheVariants.{Down, Ids}
 use Rattle.wb_crash.specs.declared.numbers.Numbers.{Numbers}
 use Rattle.wb_engine.specs.Content.{EngineContent}
+use Rattle.wb_engine.specs.Opening.{IsOpened, recovered_to}
 use Rattle.wb_engine.specs.declared.opening.OpenCause.TheVariants as opening
-use Rattle.wb_serve.specs.Session.{RoseBy, HasStop, IsStopped, Devices, devices, Report, report_of, IsSession, IsCutShort, base_of}
+use Rattle.wb_serve.specs.Session.{RoseBy, HasStop, IsStopped, Devices, devices, Report, report_of, IsSession, IsCutShort}
 use Rattle.wb_serve.specs.Playing.{IsOneSector, IsDownBy, IsPlayed, IsPlayedInPart}
 use Rattle.wb_serve.specs.Ending.{is_down_by, TellsOf}
 use Rattle.wb_serve.specs.declared.playing.Played.{Played}
 use Rattle.wb_serve.specs.declared.serving.Session.{Session}
 use Rattle.wb_serve.specs.declared.serving.ServeStop.{ServeStop}
 use Rattle.wb_serve.specs.declared.serving.ServeStop.TheVariants as stop
-use Rattle.wb_serve.proofs.Bases.{base_told, base_same}
 use Rattle.wb_serve.proofs.Faults.{some_of, down_is, no_fault, either_false, second_true, end_later, cause_told}
-use Rattle.wb_serve.proofs.Openings.{Opens, may_open}
+use Rattle.wb_serve.proofs.Openings.{some_opened, base_opened, told_opened}
 use Rattle.wb_serve.proofs.Closed.{IsCacheOf, Closes, end_changed, end_content, end_empty, end_crash}
 
 -- ---- the script
@@ -86,35 +86,33 @@ report_one played taken log_failed backing_failed = record {
 module _ {L B : Type 0} {of_log : L → State} {of_backing : B → State} {fault : Option Which} {log log_end backing backing_end : State} {start e : EngineContent L B} where
   session_one : {h : List HistoryEntry} {played : Played}
       (script : ScriptContent) (requests : List Request) (log_failed backing_failed : Bool)
-      → (opens : Opens of_log of_backing log backing start) → script.sectors ≤ start.geometry.backing_sectors → script.requests ≡ requests ∷ []
+      → (opens : IsOpened of_log of_backing log backing start) → script.sectors ≤ start.geometry.backing_sectors → script.requests ≡ requests ∷ []
       → IsPlayed of_log of_backing 0 requests start e played h → Closes of_log of_backing fault log_end backing_end e
       → log_failed ≡ (played.log_failed || is_down_by Log fault) → backing_failed ≡ (played.backing_failed || is_down_by Backing fault)
-      → IsSession opens.fresh.found script (devices log backing) (devices log_end backing_end) (report_one played (length h) log_failed backing_failed)
+      → IsSession opens.found script (devices log backing) (devices log_end backing_end) (report_one played (length h) log_failed backing_failed)
   session_one {h} {played} script requests log_failed backing_failed opens fits one p closes log_flag backing_flag =
       let lines : List Line = played.transcript in
-      let found = opens.fresh.found in
+      let found = opens.found in
       let come = p.come in
       let printed = IsHistory-one script requests lines h one p.once in
       let places_are : length h ≡ e.absorbed = come.places in
-      let geometry : e.geometry ≡ found.geometry = come.kept.geometry ∙ opens.fresh.geometry in
-      let number : e.numbers.first ≡ found.recorded = come.kept.first ∙ ap (λ (n : Numbers). n.first) opens.fresh.numbers in
+      let geometry : e.geometry ≡ found.geometry = come.kept.geometry ∙ opens.geometry in
+      let number : e.numbers.first ≡ recovered_to found = come.kept.first ∙ ap (λ (n : Numbers). n.first) opens.numbers in
       let cache : IsCacheOf found (length h) e = record { geometry = geometry; first = number; absorbed = sym places_are } in
       let none : log_failed ≡ false → backing_failed ≡ false → fault ≡ None = λ log_fine fine.
       no_fault fault (either_false played.log_failed (is_down_by Log fault) (sym log_flag ∙ log_fine)).1 (either_false played.backing_failed (is_down_by Backing fault) (sym backing_flag ∙ fine)).1 in
-      let opened_some : IsSome log.content → IsSome (of_log start.log).content = λ some. subst (λ (content : Option Image). IsSome content) (sym opens.log_synced.content) some in
-      let base_is : base_of (of_log start.log) (of_backing start.backing) ≡ base_of log backing = base_same log (of_log start.log) backing (of_backing start.backing) opens.log_synced.content opens.backing_synced.content in
-      let answers = subst (λ (base : Option Image). AnswersAll base h 0 nothing_seen requests lines) base_is p.answers in
       let down : (device : Which) → IsStopped (Down device) (lines ∷ []) → IsDownBy e device = λ device some. p.stopped_down device (any_one (Any (HasStop (Down device))) lines some) in
       let log_later = end_later closes.log_faults in
       let backing_later = end_later closes.backing_faults in
       record {
-        opened = may_open opens;
-        no_stray = opens.fresh.no_stray;
-        fits = subst (λ (g : Geometry). script.sectors ≤ g.backing_sectors) opens.fresh.geometry fits;
+        opened = opens.recovered.went.may;
+        no_stray = opens.recovered.no_stray;
+        fits = subst (λ (g : Geometry). script.sectors ≤ g.backing_sectors) opens.geometry fits;
         history = h;
         printed = printed;
         only = λ other is. one_history script (lines ∷ []) (length h) other h is printed;
-        legal = AreLegal-one (base_of log backing) h script requests lines one (IsLegal-alone (base_of log backing) h 0 requests lines answers p.own p.once);
+        legal = λ content is.
+            AreLegal-one content h script requests lines one (IsLegal-alone content h 0 requests lines (p.answers content (told_opened opens content is)) p.own p.once);
         log_failures = subst (λ (k : ℕ). RoseBy k log.faults log_end.faults) (sym (all_failures-one Log lines)) (omega (arith, come.log_faults.failed, log_later, opens.log_faults));
         backing_failures = subst (λ (k : ℕ). RoseBy k backing.faults backing_end.faults) (sym (all_failures-one Backing lines)) (omega (arith, come.backing_faults.failed, backing_later, opens.backing_faults));
         down_full = λ device some.
@@ -128,15 +126,13 @@ module _ {L B : Type 0} {of_log : L → State} {of_backing : B → State} {fault
         ids_told = λ is. one_any (Any (HasStop Ids)) lines (p.ids_told is);
         ids_spent = λ some.
             let spent = p.stopped_ids (any_one (Any (HasStop Ids)) lines some) in
-            let all : places e.geometry * (2 ^ 48 - e.numbers.first) ≡ places found.geometry * (2 ^ 48 - found.recorded) =
+            let all : places e.geometry * (2 ^ 48 - e.numbers.first) ≡ places found.geometry * (2 ^ 48 - recovered_to found) =
             ap (λ (g : Geometry). places g * (2 ^ 48 - e.numbers.first)) geometry ∙ ap (λ (n : ℕ). places found.geometry * (2 ^ 48 - n)) number in
             (spent.0, places_are ∙ spent.1 ∙ all);
-        changed = λ some. content_kept_before opens.backing_synced.content (end_changed come closes (opened_some some));
-        crash = λ base is.
-            let told = base_told (of_log start.log) (of_backing start.backing) base (base_is ∙ is) in
-            end_crash found (length h) base cache come closes told.0 told.1;
-        content = λ log_fine fine some. content_kept_before opens.backing_synced.content (end_content come closes (opened_some some) (none log_fine fine));
-        empty = λ log_fine fine x some told. end_empty found (length h) cache come closes (opened_some some) (none log_fine fine) x told;
+        changed = λ base is. end_changed base come closes (base_opened opens base is);
+        crash = λ base is. end_crash found (length h) base cache come closes (base_opened opens base is);
+        content = λ log_fine fine base is. end_content base come closes (base_opened opens base is) (none log_fine fine);
+        empty = λ log_fine fine x some told. end_empty found (length h) cache come closes (some_opened opens some) (none log_fine fine) x told;
         durable = λ log_fine fine. closes.durable (none log_fine fine) come.synced;
         log_cause = subst (λ (before : ℕ). CountsFaultsWhere (log_failed ≡ true) before log_end.faults) opens.log_faults
             (cause_told played.log_failed log_failed come.log_faults closes.log_faults p.log_fails p.log_fine log_flag);
@@ -146,15 +142,15 @@ module _ {L B : Type 0} {of_log : L → State} {of_backing : B → State} {fault
 
   -- as it is told
   pub session_told : (script : ScriptContent) (requests : List Request) (first taken : ℕ) (played : Result Played AllocError) (session : Session)
-      → (opens : Opens of_log of_backing log backing start) → script.sectors ≤ start.geometry.backing_sectors → script.requests ≡ requests ∷ []
+      → (opens : IsOpened of_log of_backing log backing start) → script.sectors ≤ start.geometry.backing_sectors → script.requests ≡ requests ∷ []
       → IfOk played (λ p. (h : List HistoryEntry) × IsPlayed of_log of_backing 0 requests start e p h)
       → Closes of_log of_backing fault log_end backing_end e → first ≡ e.numbers.first → taken ≡ e.absorbed → TellsOf played first taken fault session
-      → IsSession opens.fresh.found script (devices log backing) (devices log_end backing_end) (report_of session) × (session.first ≡ opens.fresh.found.recorded)
+      → IsSession opens.found script (devices log backing) (devices log_end backing_end) (report_of session) × (session.first ≡ recovered_to opens.found)
   session_told script requests first taken (Err none) session opens fits one p closes first_is count tells = absurd tells
   session_told script requests first taken (Ok played) session opens fits one p closes first_is count (written, places_are, record_is, ids_are, log_flag, backing_flag) = (
-    subst (IsSession opens.fresh.found script (devices log backing) (devices log_end backing_end)) same
+    subst (IsSession opens.found script (devices log backing) (devices log_end backing_end)) same
         (session_one script requests session.log_failed session.backing_failed opens fits one p.1 closes log_flag backing_flag),
-    record_is ∙ first_is ∙ p.1.come.kept.first ∙ ap (λ (n : Numbers). n.first) opens.fresh.numbers,
+    record_is ∙ first_is ∙ p.1.come.kept.first ∙ ap (λ (n : Numbers). n.first) opens.numbers,
   )
     where
       same : report_one played (length p.0) session.log_failed session.backing_failed ≡ report_of session
@@ -165,9 +161,9 @@ module _ {L B : Type 0} {of_log : L → State} {of_backing : B → State} {fault
 
   -- where memory was wanting behind some answers
   pub session_cut : (script : ScriptContent) (requests : List Request)
-      → (opens : Opens of_log of_backing log backing start) → script.sectors ≤ start.geometry.backing_sectors → script.requests ≡ requests ∷ []
+      → (opens : IsOpened of_log of_backing log backing start) → script.sectors ≤ start.geometry.backing_sectors → script.requests ≡ requests ∷ []
       → IsPlayedInPart of_log of_backing 0 requests start e → Closes of_log of_backing fault log_end backing_end e
-      → IsCutShort opens.fresh.found script (devices log backing) (devices log_end backing_end)
+      → IsCutShort opens.found script (devices log backing) (devices log_end backing_end)
   session_cut script requests opens fits one part closes =
       let first : List Request = take part.count requests in
       let log_failed : Bool = part.played.log_failed || is_down_by Log fault in

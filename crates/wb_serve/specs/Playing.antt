@@ -18,7 +18,7 @@ use Rattle.wb_engine.specs.Content.{EngineContent, limit_of}
 use Rattle.wb_engine.specs.Standing.{Standing, Told, IsSynced}
 use Rattle.wb_engine.specs.Opening.{IsOnly}
 use Rattle.wb_serve.specs.declared.playing.Played.{Played}
-use Rattle.wb_serve.specs.Session.{RoseBy, HasStop, base_of}
+use Rattle.wb_serve.specs.Session.{RoseBy, HasStop}
 
 -- one sector of a backing device of so many, and a pattern of one byte
 abbrev pub IsOneSector : ℕ → Request → Type 0
@@ -141,6 +141,10 @@ is_stopped_line (Failed device) = false
 
 -- ---- all requests of a client
 
+-- both devices of the engine tell their contents, and the backing device this image
+abbrev pub IsTold : {L B : Type 0} (of_log : L → State) (of_backing : B → State) → EngineContent L B → Image → Type 0
+IsTold of_log of_backing e base = IsSome (of_log e.log).content × Told (of_backing e.backing) base
+
 -- What playing them leaves: their lines, the history that they print, whether a write was stopped for want of an id, and
 -- whether a read failed on either device.
 pub record IsPlayed {L B : Type 0} (of_log : L → State) (of_backing : B → State) (client : ℕ) (requests : List Request) (start e : EngineContent L B)
@@ -148,7 +152,8 @@ pub record IsPlayed {L B : Type 0} (of_log : L → State) (of_backing : B → St
   pub come : HasCome of_log of_backing start e history (failures Log played.transcript) (failures Backing played.transcript)
   pub once : printed client requests played.transcript ≡ enumerate_from 0 history
   pub own : All (λ entry. client_of entry ≡ client) history
-  pub answers : AnswersAll (base_of (of_log start.log) (of_backing start.backing)) history client nothing_seen requests played.transcript
+  -- whether both devices told their contents at the opening or not
+  pub answers : (content : Option Image) → IfSome content (IsTold of_log of_backing start) → AnswersAll content history client nothing_seen requests played.transcript
   pub sees : (seen_after_all nothing_seen requests played.transcript).number ≤ length history
   pub log_fails : played.log_failed ≡ true → 1 ≤ failures Log played.transcript
   pub log_fine : played.log_failed ≡ false → failures Log played.transcript ≡ 0

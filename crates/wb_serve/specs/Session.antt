@@ -1,5 +1,5 @@
 -- What serving a script leaves.
-use Rattle.std.specs.Prelude.{ℕ, ◌≡◌, ◌⊎◌, ◌+◌, ◌-◌, ◌*◌, ◌/◌, ◌^◌, ◌<◌, ◌≤◌, Bool, true, false, List, [], length, take, slice_index_or, min, Any, Option, Some, None, IsSome, Result, Ok, Err}
+use Rattle.std.specs.Prelude.{ℕ, ◌≡◌, ◌⊎◌, ◌+◌, ◌-◌, ◌*◌, ◌/◌, ◌^◌, ◌<◌, ◌≤◌, Bool, true, false, List, [], length, take, slice_index_or, min, Any, Option, Some, None, IsSome, IfSome, Result, Ok, Err}
 use Rattle.wb_geometry.specs.Image.{Image}
 use Rattle.wb_geometry.specs.History.{HistoryEntry, after, PutsPartly}
 use Rattle.wb_geometry.specs.Layout.{places}
@@ -19,7 +19,9 @@ use Rattle.wb_super.specs.declared.reading.Super.{Super}
 use Rattle.wb_super.specs.declared.reading.SuperRefused.TheVariants as refused
 use Rattle.wb_crash.specs.Chain.{IsChain}
 use Rattle.wb_crash.specs.Crash.{CrashNow}
-use Rattle.wb_engine.specs.Opening.{RefusesOpening, MayOpen, HasNoStray, IsEarly, IsOnlySynced}
+use Rattle.wb_replay.specs.Replaying.{MakesOf}
+use Rattle.wb_replay.specs.Stopping.{HasNoStray}
+use Rattle.wb_engine.specs.Opening.{MayOpen, HasRecovered, RefusesOpening, recovered_to}
 use Rattle.wb_engine.specs.declared.opening.OpenCause.TheVariants as opening
 use Rattle.wb_serve.specs.declared.serving.Session.{Session}
 use Rattle.wb_serve.specs.declared.serving.ServeStop.{ServeStop}
@@ -39,18 +41,9 @@ HasStop stop (Failed device) = ⊥
 abbrev pub IsStopped : Stop → List (List Line) → Type 0
 IsStopped stop transcripts = Any (Any (HasStop stop)) transcripts
 
--- The base image of a session: the backing device's content at the opening, where both devices tell theirs, since a read may
--- come from either.
-abbrev pub told_with : Option Image → Option Image → Option Image
-told_with None base = None
-told_with (Some x) base = base
-
-abbrev pub base_of : (log backing : State) → Option Image
-base_of log backing = told_with log.content backing.content
-
 -- the id of the last segment of a session with so many places
 abbrev pub last_segment : Super → (taken : ℕ) → ℕ
-last_segment found taken = found.recorded + (taken + places found.geometry - 1) / places found.geometry
+last_segment found taken = recovered_to found + (taken + places found.geometry - 1) / places found.geometry
 
 -- the states of a log and of the backing device that it stands before
 pub record Devices : Type 1 where
@@ -79,16 +72,21 @@ report_of session = record {
   backing_failed = session.backing_failed;
 }
 
+-- The base image of a session: what recovery makes of the contents before it, where both are told.
+abbrev pub IsBase : Super → Devices → Image → Type 0
+IsBase found before base = (x : Image) × (y : Image) × MakesOf found.geometry x y base before.log before.backing
+
 -- A session of this script, over a cache with this superblock. The history is that of the transcripts. The flags say that a
--- write was stopped for want of an id, and that a device failed. What is said of contents holds where the log tells its own.
+-- write was stopped for want of an id, and that a device failed.
 pub record IsSession (found : Super) (script : ScriptContent) (before now : Devices) (report : Report) : Type 0 where
   pub opened : MayOpen before.log before.backing.sectors found
-  pub no_stray : HasNoStray found.geometry found.recorded before.log
+  pub no_stray : HasNoStray found.geometry (recovered_to found) before.log
   pub fits : script.sectors ≤ found.geometry.backing_sectors
   pub history : List HistoryEntry
   pub printed : IsHistory script report.transcripts report.taken history
   pub only : (other : List HistoryEntry) → IsHistory script report.transcripts report.taken other → other ≡ history
-  pub legal : AreLegal (base_of before.log before.backing) history 0 script.requests report.transcripts
+  -- whether there is a base image or not
+  pub legal : (content : Option Image) → IfSome content (IsBase found before) → AreLegal content history 0 script.requests report.transcripts
   -- no more lines say that a read of a device failed than it failed
   pub log_failures : RoseBy (all_failures Log report.transcripts) before.log.faults now.log.faults
   pub backing_failures : RoseBy (all_failures Backing report.transcripts) before.backing.faults now.backing.faults
@@ -98,27 +96,19 @@ pub record IsSession (found : Super) (script : ScriptContent) (before now : Devi
   pub down_backing : IsStopped (Down Backing) report.transcripts → report.backing_failed ≡ true
   -- and for want of an id only once all are spent
   pub ids_told : report.ids ≡ true → IsStopped Ids report.transcripts
-  pub ids_spent : IsStopped Ids report.transcripts → (report.ids ≡ true) × (report.taken ≡ places found.geometry * (2 ^ 48 - found.recorded))
-  -- no sector changes but to what an entry of the history writes
-  pub changed : IsSome before.log.content → ContentPasses (PutsPartly history) before.backing now.backing
+  pub ids_spent : IsStopped Ids report.transcripts → (report.ids ≡ true) × (report.taken ≡ places found.geometry * (2 ^ 48 - recovered_to found))
+  -- no sector of the base image changes but to what an entry of the history writes
+  pub changed : (base : Image) → IsBase found before base → (image : Image) × (now.backing.content ≡ Some image) × PutsPartly history base image
   -- recovery makes of whatever a crash now leaves the image after exactly the first segments, up to some segment
-  pub crash : (base : Image) → base_of before.log before.backing ≡ Some base
-      → CrashNow found.geometry (line_of (places found.geometry) found.recorded base history) found.recorded (last_segment found report.taken) now.log now.backing
+  pub crash : (base : Image) → IsBase found before base
+      → CrashNow found.geometry (line_of (places found.geometry) (recovered_to found) base history) (recovered_to found) (last_segment found report.taken) now.log now.backing
   -- where neither device failed the whole history is put and recorded, recovery finds no segment, and a crash leaves it so
-  pub content : report.log_failed ≡ false → report.backing_failed ≡ false → IsSome before.log.content
-      → ContentPasses (λ base image. image ≡ after base history) before.backing now.backing
+  pub content : report.log_failed ≡ false → report.backing_failed ≡ false → (base : Image) → IsBase found before base → now.backing.content ≡ Some (after base history)
   pub empty : report.log_failed ≡ false → report.backing_failed ≡ false → (x : Image) → IsSome before.log.content → now.log.content ≡ Some x
       → IsChain found.geometry x [] × (record_of x ≡ last_segment found report.taken)
   pub durable : report.log_failed ≡ false → report.backing_failed ≡ false → NothingPending now.log × NothingPending now.backing
   pub log_cause : CountsFaultsWhere (report.log_failed ≡ true) before.log.faults now.log.faults
   pub backing_cause : CountsFaultsWhere (report.backing_failed ≡ true) before.backing.faults now.backing.faults
-
--- Both devices were synced at most, and the backing device not called where the cause comes before that.
-pub record IsUntouched (early : Type 0) (before now : Devices) : Type 0 where
-  pub log : IsOnlySynced before.log now.log
-  pub backing : IsOnlySynced before.backing now.backing
-  pub early_log : early → OnlyRead before.log now.log
-  pub early_backing : early → IsUncalled before.backing now.backing
 
 -- these are the first requests of each client
 pub record IsCutOf (whole part : List (List Request)) : Type 0 where
@@ -133,15 +123,15 @@ pub record IsCutShort (found : Super) (script : ScriptContent) (before now : Dev
   pub report : Report
   pub session : IsSession found (record script { requests = answered }) before now report
 
--- Why no session was served, and what was done then. Want of memory has no cause, and may come behind some answers.
+-- Why no session was served, and what was done then. Want of memory has no cause, and may come behind some answers. A cache
+-- that is smaller than its script was recovered.
 abbrev pub IsUnserved : (script : ScriptContent) (before now : Devices) → ServeStop → Type 0
 IsUnserved script before now (stop.Open cause) =
     ((cause ≡ opening.Memory) × ((found : Super) × IsCutShort found script before now))
-    ⊎ (RefusesOpening before.log before.backing.sectors cause × IsUntouched (IsEarly cause) before now)
+    ⊎ RefusesOpening cause before.log now.log before.backing now.backing
 IsUnserved script before now (stop.Changed parsed found) =
     (parsed ≡ script.sectors) × (found < parsed)
-    × ((super : Super) × MayOpen before.log before.backing.sectors super × HasNoStray super.geometry super.recorded before.log × (found ≡ super.geometry.backing_sectors))
-    × IsUntouched ⊥ before now
+    × ((super : Super) × HasRecovered super before.log now.log before.backing now.backing × (found ≡ super.geometry.backing_sectors))
 
 -- the answer says that the log failed, or that the backing device did
 abbrev pub SaysLogFault : Result Session ServeStop → Type 0

@@ -3,6 +3,7 @@ ghost use Rattle.std.specs.Prelude.{◌≡◌, ◌≢◌, Err, IfOk, IfErr};
 ghost use Rattle.wb_geometry.specs.Device.{CountsFaultsWhere};
 ghost use Rattle.wb_script.specs.Valid.{IsValid};
 ghost use Rattle.wb_super.specs.declared.reading.Super.{Super};
+ghost use Rattle.wb_engine.specs.Opening.{recovered_to};
 ghost use Rattle.wb_engine.specs.declared.opening.OpenCause.TheVariants.{Memory};
 ghost use Rattle.wb_serve.specs.Session.{devices, report_of, IsSession, IsUnserved, SaysLogFault, SaysBackingFault};
 ghost use Rattle.wb_serve.specs.Ending.{TellsOf, is_down_by};
@@ -53,7 +54,7 @@ pub fn serve_plain<L: Device, B: Device>(
     script: &Script,
 ) -> Served<L, B>
     requires { IsValid script.now }
-    ensures session { IfOk result.answer (λ s. (found : Super) × IsSession found script.now (devices (L.state log) (B.state backing)) (devices (L.state result.log) (B.state result.backing)) (report_of s) × (s.first ≡ found.recorded)) }
+    ensures session { IfOk result.answer (λ s. (found : Super) × IsSession found script.now (devices (L.state log) (B.state backing)) (devices (L.state result.log) (B.state result.backing)) (report_of s) × (s.first ≡ recovered_to found)) }
     ensures unserved { IfErr result.answer (IsUnserved script.now (devices (L.state log) (B.state backing)) (devices (L.state result.log) (B.state result.backing))) }
     ensures log_cause { result.answer ≢ Err (Open Memory) → CountsFaultsWhere (SaysLogFault result.answer) (L.state log).faults (L.state result.log).faults }
     ensures backing_cause { result.answer ≢ Err (Open Memory) → CountsFaultsWhere (SaysBackingFault result.answer) (B.state backing).faults (B.state result.backing).faults }

@@ -6,11 +6,11 @@ use crate::{ServeStop, Served, Session, serve_plain};
 use std::alloc::{AllocError, Global};
 use std::process::Abort;
 use std::test::Fail;
-use wb_device::{FaultPlan, MemoryDevice, SteadyDevice};
+use wb_device::{Device, FaultPlan, MemoryDevice, SteadyDevice};
 use wb_engine::OpenCause;
 use wb_geometry::Geometry;
 use wb_script::{Script, parse};
-use wb_super::{SuperRefused, format, read_super};
+use wb_super::{SuperRefused, format, read_super, write_record};
 
 const SECTOR_BYTES: usize = 512;
 
@@ -45,10 +45,19 @@ fn log_of(alloc: Global, id: u8) -> Result<SteadyDevice, Fail> {
     Ok(SteadyDevice::of(bytes))
 }
 
-/// Serves a script for so many sectors over a new cache of 64.
-fn serve(alloc: Global, sectors: u64) -> Result<Served<SteadyDevice, SteadyDevice>, Fail> {
+/// Such a log without an id, once a cache was opened over it: its record is behind all slots.
+fn opened_log(alloc: Global) -> Result<SteadyDevice, Fail> {
+    let mut log = log_of(alloc, 0)?;
+    if log.sectors() >= 2048 {
+        write_record(&mut log, 4)?;
+    }
+    Ok(log)
+}
+
+/// Serves a script for so many sectors over a cache of 64, in the last slot of whose log is this id.
+fn serve(alloc: Global, id: u8, sectors: u64) -> Result<Served<SteadyDevice, SteadyDevice>, Fail> {
     let script = script_of(alloc, sectors)?;
-    Ok(serve_plain(alloc, log_of(alloc, 0)?, zeros(alloc, 64)?, &script))
+    Ok(serve_plain(alloc, log_of(alloc, id)?, zeros(alloc, 64)?, &script))
 }
 
 /// The byte that fills a sector once the script is served.
@@ -72,7 +81,7 @@ fn is_served(image: &[u8]) -> bool {
 fn is_answered(answer: &Result<Session, ServeStop>) -> bool {
     match answer {
         Ok(session) => session.places == 4
-            && session.first == 0
+            && session.first == 4
             && !session.ids
             && !session.log_failed
             && !session.backing_failed
@@ -90,21 +99,29 @@ fn has_record(log: &mut SteadyDevice, recorded: u64) -> bool {
     read_super(log).is_ok_and(|found| found.recorded == recorded)
 }
 
-/// Whether a session of the script was served, and left what it should: two segments of three places each at most.
+/// Whether a session of the script was served, and left what it should: two segments of three places each at most, behind
+/// the record with which it begins.
 fn went_well(served: &mut Served<SteadyDevice, SteadyDevice>) -> bool {
     is_answered(&served.answer)
         && is_served(served.backing.bytes())
-        && has_record(&mut served.log, 2)
+        && has_record(&mut served.log, 6)
 }
 
 #[test]
 fn a_script_is_served(rt: HostRuntime) -> Result<(), Fail> {
-    let mut served = serve(rt.alloc(), 64)?;
+    let mut served = serve(rt.alloc(), 0, 64)?;
     assert!(rt; went_well(&mut served));
     Ok(())
 }
 
-/// Whether no session was served for this reason, and both devices are as they were.
+#[test]
+fn an_id_up_to_the_record_and_the_slots_is_served(rt: HostRuntime) -> Result<(), Fail> {
+    let mut served = serve(rt.alloc(), 4, 64)?;
+    assert!(rt; went_well(&mut served));
+    Ok(())
+}
+
+/// Whether no session was served for this reason, the log is as this one, and the backing device as it was.
 fn was_refused(
     served: &Served<SteadyDevice, SteadyDevice>,
     why: ServeStop,
@@ -117,13 +134,48 @@ fn was_refused(
 
 #[test]
 fn a_cache_smaller_than_its_script_is_refused(rt: HostRuntime) -> Result<(), Fail> {
-    let served = serve(rt.alloc(), 72)?;
-    let changed = ServeStop::Changed {
-        parsed: 72,
-        found: 64,
-    };
-    let log = log_of(rt.alloc(), 0)?;
-    assert!(rt; was_refused(&served, changed, &log));
+    let served = serve(rt.alloc(), 0, 72)?;
+    let log = opened_log(rt.alloc())?;
+    assert!(rt; was_refused(&served, CHANGED, &log));
+    Ok(())
+}
+
+/// The answer to a script for 72 sectors.
+const CHANGED: ServeStop = ServeStop::Changed {
+    parsed: 72,
+    found: 64,
+};
+
+/// The devices of a session that couldn't write back, of which both segments are in the log.
+fn left_devices(alloc: Global) -> Result<(SteadyDevice, SteadyDevice), Fail> {
+    let script = script_of(alloc, 64)?;
+    let log = stopping(alloc, log_of(alloc, 0)?.into_bytes(), None)?;
+    let backing = stopping(alloc, zeros(alloc, 64)?.into_bytes(), Some(2))?;
+    let served = serve_plain(alloc, log, backing, &script);
+    Ok((
+        SteadyDevice::of(served.log.into_bytes()),
+        SteadyDevice::of(served.backing.into_bytes()),
+    ))
+}
+
+/// Whether a script for more sectors is refused over such devices, once what the session left is put.
+fn is_put_and_refused(alloc: Global) -> Result<bool, Fail> {
+    let script = script_of(alloc, 72)?;
+    let (log, backing) = left_devices(alloc)?;
+    let none_before = backing.bytes().iter().all(|byte| *byte == 0);
+    let mut served = serve_plain(alloc, log, backing, &script);
+    Ok(
+        none_before
+            && matches!(&served.answer, Err(stop) if *stop == CHANGED)
+            && is_served(served.backing.bytes())
+            && has_record(&mut served.log, 8),
+    )
+}
+
+#[test]
+fn what_a_session_left_is_put_before_a_script_is_refused(rt: HostRuntime) -> Result<(), Fail> {
+    let put = is_put_and_refused(rt.alloc())?;
+    assert!(rt; put);
     Ok(())
 }
 
@@ -142,9 +194,9 @@ fn a_log_that_is_not_formatted_is_refused(rt: HostRuntime) -> Result<(), Fail> {
 fn a_log_with_a_stray_id_is_refused(rt: HostRuntime) -> Result<(), Fail> {
     let alloc = rt.alloc();
     let script = script_of(alloc, 64)?;
-    let served = serve_plain(alloc, log_of(alloc, 9)?, zeros(alloc, 64)?, &script);
-    let stray = ServeStop::Open(OpenCause::Stray { slot: 3, id: 9 });
-    let log = log_of(alloc, 9)?;
+    let served = serve_plain(alloc, log_of(alloc, 5)?, zeros(alloc, 64)?, &script);
+    let stray = ServeStop::Open(OpenCause::Stray { slot: 3, id: 5 });
+    let log = log_of(alloc, 5)?;
     assert!(rt; was_refused(&served, stray, &log));
     Ok(())
 }
@@ -165,8 +217,8 @@ const NO_LOG: ServeStop = ServeStop::Open(OpenCause::LogFault);
 const NO_BACKING: ServeStop = ServeStop::Open(OpenCause::BackingFault);
 
 // The calls from which on the log and the backing device fail, and whether each of them is said to have failed in the session,
-// or why there is none. The cache is opened by seven calls of the log and one of the backing device.
-const STOPS: [(Option<u64>, Option<u64>, Result<(bool, bool), ServeStop>); 10] = [
+// or why there is none. The cache is opened by ten calls of the log and two of the backing device.
+const STOPS: [(Option<u64>, Option<u64>, Result<(bool, bool), ServeStop>); 15] = [
     (None, None, Ok((false, false))),
     (Some(1), Some(0), Err(UNREAD)),
     (Some(2), Some(0), Err(NO_LOG)),
@@ -174,9 +226,14 @@ const STOPS: [(Option<u64>, Option<u64>, Result<(bool, bool), ServeStop>); 10] =
     (Some(3), Some(1), Err(NO_LOG)),
     (Some(6), None, Err(NO_LOG)),
     (None, Some(0), Err(NO_BACKING)),
-    (Some(7), Some(1), Ok((true, false))),
-    (Some(10), None, Ok((true, false))),
-    (None, Some(1), Ok((false, true))),
+    (Some(7), Some(1), Err(NO_LOG)),
+    (Some(8), Some(1), Err(NO_BACKING)),
+    (Some(8), Some(2), Err(NO_LOG)),
+    (Some(9), None, Err(NO_LOG)),
+    (None, Some(1), Err(NO_BACKING)),
+    (Some(10), Some(2), Ok((true, false))),
+    (Some(13), None, Ok((true, false))),
+    (None, Some(2), Ok((false, true))),
 ];
 
 /// Which of the log and the backing device failed in a session, or why there is none.

@@ -12,6 +12,7 @@ use Rattle.wb_super.specs.Superblock.{SuperText, record_of, header_id}
 use Rattle.wb_super.specs.Found.{IsSuper, most_record}
 use Rattle.wb_super.specs.declared.reading.Super.{Super}
 use Rattle.wb_super.proofs.Superblocks.{not_refused, one_geometry}
+use Rattle.wb_crash.specs.Chain.{IsTidy}
 use Rattle.wb_script.specs.Content.{ScriptContent}
 use Rattle.wb_script.specs.Grammar.{IsScript, IsTheScript, IsTheRefusal}
 use Rattle.wb_script.specs.declared.refusal.Cause.{Cause}
@@ -27,13 +28,13 @@ use Rattle.wb_tool.specs.Served.{Served}
 use Rattle.wb_tool.specs.Stages.{EndsReading}
 use Rattle.wb_script.specs.Output.{session_text}
 use Rattle.wb_script.specs.declared.transcript.Line.{Line}
-use Rattle.wb_engine.specs.Opening.{RefusesSlots}
-use Rattle.wb_engine.specs.declared.opening.OpenCause.TheVariants.{Stray}
+use Rattle.wb_replay.specs.Stopping.{IsFirstStray}
+use Rattle.wb_engine.specs.Opening.{recovered_to}
 use Rattle.wb_serve.specs.Session.{Devices, Report, IsSession}
 use Rattle.wb_tool.specs.Inspect.{InspectAccount}
 use Rattle.wb_tool.specs.Slot.{SlotAccount}
 use Rattle.wb_tool.specs.Format.{FormatAccount, Asks}
-use Rattle.wb_tool.specs.Account.{IsAccounted, IsComplete, TellsFormatted, IsTidy, LeavesIds, IsScripted, NoLogFault, NoFault, Succeeds}
+use Rattle.wb_tool.specs.Account.{IsAccounted, IsComplete, TellsFormatted, LeavesIds, IsScripted, NoLogFault, NoFault, Succeeds}
 
 -- a formatted log is refused only for a fault, which ends the run with status 6
 log_fault : (sink : Lent) (s : State) (status : ℕ) (image : Image) (g : Geometry) → IsDevice s → s.content ≡ Some image → SuperText image g 1
@@ -91,8 +92,9 @@ not_spent before after g image input script found report ready good session spen
     let few = few_places g.backing_sectors (script_bytes input) script report.transcripts report.taken session.history good session.printed in
     let all = (session.ids_spent (session.ids_told spent)).1 in
     let each = (places_few found.geometry).0 in
-    let left : 2 ^ 26 ≤ 2 ^ 48 - found.recorded = omega (arith, same_record before.log g image found ready session.opened.super, ready.ids) in
-    let more : 1 * (2 ^ 48 - found.recorded) ≤ layout.places found.geometry * (2 ^ 48 - found.recorded) = mul-le-mul_right (2 ^ 48 - found.recorded) each in
+    let slots = ap (λ (h : Geometry). h.slots) (same_geometry before.log image g found ready.told ready.text session.opened.super) in
+    let left : 2 ^ 26 ≤ 2 ^ 48 - recovered_to found = omega (arith, same_record before.log g image found ready session.opened.super, ready.ids, slots) in
+    let more : 1 * (2 ^ 48 - recovered_to found) ≤ layout.places found.geometry * (2 ^ 48 - recovered_to found) = mul-le-mul_right (2 ^ 48 - recovered_to found) each in
     omega (arith, few, all, left, more)
 
 -- the status isn't that of a log that failed
@@ -132,24 +134,25 @@ not_changed s g image bytes script found ready good super fewer =
     omega (arith, same, good.sectors_are, fewer)
 
 -- no slot of it is refused
-not_stray : (s : State) (g : Geometry) (image : Image) (found : Super) (slot id : ℕ) → IsReady s g image → IsSuper s found → RefusesSlots found.geometry found.recorded s (Stray slot id) → ⊥
+not_stray : (s : State) (g : Geometry) (image : Image) (found : Super) (slot id : ℕ) → IsReady s g image → IsSuper s found → IsFirstStray found.geometry (recovered_to found) s slot id → ⊥
 not_stray s g image found slot id ready super (below, above, first) =
     let geometry : found.geometry ≡ g = same_geometry s image g found ready.told ready.text super in
     let here : header_id found.geometry image slot ≡ id =
-    (subst (λ (content : Option Image). IfSome content (λ x. (header_id found.geometry x slot ≡ id) × ((earlier : ℕ) → earlier < slot → header_id found.geometry x earlier ≤ found.recorded))) ready.told first).0 in
+    (subst (λ (content : Option Image). IfSome content (λ x. (header_id found.geometry x slot ≡ id) × ((earlier : ℕ) → earlier < slot → header_id found.geometry x earlier ≤ recovered_to found))) ready.told first).0 in
+    let slots = ap (λ (h : Geometry). h.slots) geometry in
     let inside : slot < g.slots = subst (λ (h : Geometry). slot < h.slots) geometry below in
     let same : header_id g image slot ≡ id = subst (λ (h : Geometry). header_id h image slot ≡ id) geometry here in
-    omega (arith, same, ready.tidy slot inside, same_record s g image found ready super, above)
+    omega (arith, same, ready.tidy slot inside, same_record s g image found ready super, above, slots)
 
 -- so nothing but a fault stops it as the cache is opened
 not_stopped : (r : Run) (g : Geometry) (image : Image) (bytes : List ℕ) (script : ScriptContent) → NoFault r → ServeAccount r → IsReady r.before.log g image → IsScript g.backing_sectors bytes script
     → IsStopped script.sectors r → ⊥
-not_stopped r g image bytes script fine account ready good (inl stray) =
-    not_stray r.before.log g image stray.found stray.slot stray.id ready stray.may.super stray.stray
-not_stopped r g image bytes script fine account ready good (inr (inl failed)) = not_at_6 r account fine failed.ended
-not_stopped r g image bytes script fine account ready good (inr (inr (inl failed))) = not_at_7 r account fine failed.ended
-not_stopped r g image bytes script fine account ready good (inr (inr (inr change))) =
-    not_changed r.before.log g image bytes script change.found ready good change.super change.fewer
+not_stopped r g image bytes script fine account ready good (none, inl stray) =
+    not_stray r.before.log g image stray.stopped.found stray.slot stray.id ready stray.stopped.went.may.super stray.stopped.refused
+not_stopped r g image bytes script fine account ready good (none, inr (inl failed)) = not_at_6 r account fine failed.ended
+not_stopped r g image bytes script fine account ready good (none, inr (inr (inl failed))) = not_at_7 r account fine failed.ended
+not_stopped r g image bytes script fine account ready good (none, inr (inr (inr change))) =
+    not_changed r.before.log g image bytes script change.found ready good change.recovered.went.may.super change.fewer
 
 scripted_well : (r : Run) (g : Geometry) (image : Image) (input : List ℕ) → NoFault r → ServeAccount r → IsReady r.before.log g image → g.backing_sectors ≤ r.before.backing.sectors
     → r.source.before ≡ Some input → serve.IsScripted g.backing_sectors r → Succeeds r
@@ -158,7 +161,7 @@ scripted_well r g image input fine account ready room told scripted =
     elim scripted.ends [
       | inl unbegun ↦ absurd (not_at_6 r account fine (opens r.sink r.before.log g image r.before.backing.sectors r.status ready room unbegun.1))
       | inr rest ↦ elim rest [
-        | inl broken ↦ absurd (not_stopped r g image (script_bytes input) scripted.script fine account ready good broken.1)
+        | inl broken ↦ absurd (not_stopped r g image (script_bytes input) scripted.script fine account ready good broken)
         | inr served ↦ session_well r g image input scripted.script fine account ready good served
       ]
     ]

@@ -1,7 +1,7 @@
 -- What is said of a log holds of it before it was read.
-use Rattle.std.proofs.Common.{◌≡◌, ◌<◌, ◌≤◌, List, ℕ, Bool, subst, ◌∙◌, Option, IfSome}
+use Rattle.std.proofs.Common.{◌≡◌, ◌<◌, ◌≤◌, List, ℕ, Bool, subst, ◌∙◌, refl, Option, Some, None, IfSome}
 use Rattle.wb_geometry.specs.Image.{Image}
-use Rattle.wb_geometry.specs.Device.{State, OnlyRead}
+use Rattle.wb_geometry.specs.Device.{State, IsDevice, OnlyRead}
 use Rattle.wb_geometry.specs.Layout.{log_sectors}
 use Rattle.wb_geometry.specs.declared.geometry.Geometry.{Geometry}
 use Rattle.wb_geometry.proofs.Moments.{joined_same, same_device_trans}
@@ -11,11 +11,18 @@ use Rattle.wb_super.specs.declared.reading.Super.{Super}
 use Rattle.wb_super.specs.declared.reading.SuperRefused.{SuperRefused}
 use Rattle.wb_super.specs.declared.reading.SuperRefused.TheVariants as refused
 use Rattle.wb_script.specs.Content.{ScriptContent}
-use Rattle.wb_engine.specs.Opening.{MayOpen, HasNoStray, RefusesSlots, IsOnlySynced}
-use Rattle.wb_engine.specs.declared.opening.OpenCause.TheVariants.{Stray}
-use Rattle.wb_serve.specs.Session.{Devices, Report, IsSession, IsCutShort}
+use Rattle.wb_replay.specs.Replaying.{IsOnlySynced}
+use Rattle.wb_replay.specs.declared.replaying.ReplayStop.{ReplayStop}
+use Rattle.wb_engine.specs.Opening.{MayOpen, Goes, HasRecovered, HasStopped}
+use Rattle.wb_engine.proofs.Openings.{goes_opened, recovered_opened, stopped_opened}
+use Rattle.wb_serve.specs.Session.{Devices, Report, IsBase, IsSession, IsCutShort}
 use Rattle.wb_tool.specs.Run.{Run}
 use Rattle.wb_tool.specs.Served.{Served}
+
+-- what holds of each content
+if_told : {P : Image → Type 0} (content : Option Image) → ((x : Image) → content ≡ Some x → P x) → IfSome content P
+if_told None holds = tt
+if_told (Some x) holds = holds x refl
 
 -- the superblock
 
@@ -47,40 +54,50 @@ refuses_before old mid size same (refused.Record found) why = (why.0, (why.1.0, 
 pub may_before : (old mid : State) (has : ℕ) → OnlyRead old mid → (found : Super) → MayOpen mid has found → MayOpen old has found
 may_before old mid has read found may = record { super = super_before old mid read found may.super; ids = may.ids; fits = may.fits }
 
-no_stray_before : (old mid : State) → OnlyRead old mid → (g : Geometry) (recorded : ℕ) → HasNoStray g recorded mid → HasNoStray g recorded old
-no_stray_before old mid read g recorded none =
-    subst (λ (content : Option Image). IfSome content (λ x. (slot : ℕ) → slot < g.slots → header_id g x slot ≤ recorded)) read.content none
-
-pub stray_before : (old mid : State) → OnlyRead old mid → (g : Geometry) (recorded slot id : ℕ) → RefusesSlots g recorded mid (Stray slot id) → RefusesSlots g recorded old (Stray slot id)
-stray_before old mid read g recorded slot id (below, above, first) = (
-  below,
-  above,
-  subst (λ (content : Option Image). IfSome content (λ x. (header_id g x slot ≡ id) × ((earlier : ℕ) → earlier < slot → header_id g x earlier ≤ recorded))) read.content first,
-)
-
-pub synced_before : {old mid new : State} → OnlyRead old mid → IsOnlySynced mid new → IsOnlySynced old new
-synced_before read synced = record {
-  content = synced.content ∙ read.content;
-  crash = joined_same read.crash synced.crash;
-  same = same_device_trans read.same synced.same;
-}
-
--- a session
-
 -- the devices before, of which the log was read since
 abbrev pub earlier : State → Devices → Devices
 earlier old mid = record { log = old; backing = mid.backing }
+
+-- both devices, of which the log was read before
+pub record AreDevices (old : State) (mid : Devices) : Type 0 where
+  pub read : OnlyRead old mid.log
+  pub on_log : IsDevice old
+  pub on_backing : IsDevice mid.backing
+
+goes_before : {old : State} {mid after : Devices} (found : Super) → AreDevices old mid → Goes found mid.log after.log mid.backing after.backing → Goes found old after.log mid.backing after.backing
+goes_before {old} {mid} found are went =
+    goes_opened found (may_before old mid.log mid.backing.sectors are.read found went.may) are.read are.on_log are.on_backing (λ super. went.in_turn) went.same_log went.same_backing
+
+pub recovered_before : {old : State} {mid after : Devices} (found : Super) → AreDevices old mid → HasRecovered found mid.log after.log mid.backing after.backing
+    → HasRecovered found old after.log mid.backing after.backing
+recovered_before found are recovered =
+    recovered_opened found (goes_before found are recovered.went) are.read recovered.no_stray (λ super. recovered.all_put) recovered.records
+    (λ super. if_told _ recovered.fresh) recovered.durable
+
+pub stopped_before : {old : State} {mid after : Devices} (why : ReplayStop) → AreDevices old mid → HasStopped why mid.log after.log mid.backing after.backing
+    → HasStopped why old after.log mid.backing after.backing
+stopped_before why are stopped = stopped_opened stopped.found why (goes_before stopped.found are stopped.went) are.read stopped.refused stopped.so_far
+
+-- what recovery makes of the contents is the same
+base_after : (old : State) (mid : Devices) (found : Super) (base : Image) → OnlyRead old mid.log → IsBase found (earlier old mid) base → IsBase found mid base
+base_after old mid found base read (x, y, of) = (x, y, record { log_told = read.content ∙ of.log_told; told = of.told; makes = of.makes })
+
+bases_after : (old : State) (mid : Devices) (found : Super) (content : Option Image) → OnlyRead old mid.log → IfSome content (IsBase found (earlier old mid)) → IfSome content (IsBase found mid)
+bases_after old mid found None read is = tt
+bases_after old mid found (Some base) read is = base_after old mid found base read is
+
+-- a session
 
 session_before : (old : State) (mid after : Devices) (found : Super) (script : ScriptContent) (report : Report) → OnlyRead old mid.log → mid.log.faults ≡ old.faults
     → IsSession found script mid after report → IsSession found script (earlier old mid) after report
 session_before old mid after found script report read kept session = record {
   opened = may_before old mid.log mid.backing.sectors read found session.opened;
-  no_stray = no_stray_before old mid.log read found.geometry found.recorded session.no_stray;
+  no_stray = rw read.content at session.no_stray;
   fits = session.fits;
   history = session.history;
   printed = session.printed;
   only = session.only;
-  legal = rw read.content at session.legal;
+  legal = λ content is. session.legal content (bases_after old mid found content read is);
   log_failures = rw kept at session.log_failures;
   backing_failures = session.backing_failures;
   down_full = session.down_full;
@@ -88,9 +105,9 @@ session_before old mid after found script report read kept session = record {
   down_backing = session.down_backing;
   ids_told = session.ids_told;
   ids_spent = session.ids_spent;
-  changed = rw read.content at session.changed;
-  crash = rw read.content at session.crash;
-  content = rw read.content at session.content;
+  changed = λ base is. session.changed base (base_after old mid found base read is);
+  crash = λ base is. session.crash base (base_after old mid found base read is);
+  content = λ log_fine fine base is. session.content log_fine fine base (base_after old mid found base read is);
   empty = rw read.content at session.empty;
   durable = session.durable;
   log_cause = rw kept at session.log_cause;

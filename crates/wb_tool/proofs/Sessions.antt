@@ -74,6 +74,6 @@ module _ (script : ScriptContent) (run : Run) (found : Super) (ids log_failed ba
         (log_is_6 run.sink run.status text run.places ids log_failed backing_failed some ends) (log_at_6 run.sink run.status text run.places ids log_failed backing_failed ends) session.log_cause;
     backing_faults = λ some other. counts_same (backing_failed ≡ true) (run.status ≡ 7) run.before.backing.faults run.after.backing.faults
         (backing_is_7 run.sink run.status text run.places ids log_failed backing_failed some other ends) (backing_at_7 run.sink run.status text run.places ids log_failed backing_failed ends) session.backing_cause;
-    wanting = λ is. inr (found, cut_nowhere session);
+    wanting = λ is. inr (inr (found, cut_nowhere session));
     ends = session_ends session ends;
   }

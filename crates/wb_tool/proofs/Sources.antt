@@ -60,23 +60,20 @@ serving_beside : (script : ScriptContent) (source sink : Lent) (log_before log_a
 serving_beside script source sink log_before log_after backing_before backing_after status transcripts places (inl (unbegun, unopened)) =
     let none = unbegun.no_session in
     inl (record { no_session = record { transcripts = none.transcripts; places = none.places }; backing = unbegun.backing; log = unbegun.log }, unopened)
-serving_beside script source sink log_before log_after backing_before backing_after status transcripts places (inr (inl (broken, stopped))) =
-    inr (inl (record { no_session = record { transcripts = broken.no_session.transcripts; places = broken.no_session.places }; log = broken.log; backing = broken.backing }, stopped_beside stopped))
-  where
-    run : Run
-    run = run_of no_source sink log_before log_after backing_before backing_after status transcripts places
-
-    beside : Run
-    beside = run_of source sink log_before log_after backing_before backing_after status transcripts places
-
-    fault_beside : (device : Which) (known : ℕ) → EndsByFault device known run → EndsByFault device known beside
-    fault_beside device known fault = record { found = fault.found; may = fault.may; ended = fault.ended; told = fault.told }
-
-    stopped_beside : IsStopped script.sectors run → IsStopped script.sectors beside
-    stopped_beside (inl stray) = inl (record { found = stray.found; may = stray.may; slot = stray.slot; id = stray.id; stray = stray.stray; ended = stray.ended; told = stray.told })
-    stopped_beside (inr (inl fault)) = inr (inl (fault_beside _ 6 fault))
-    stopped_beside (inr (inr (inl fault))) = inr (inr (inl (fault_beside _ 7 fault)))
-    stopped_beside (inr (inr (inr change))) = inr (inr (inr (record { found = change.found; super = change.super; fewer = change.fewer; ended = change.ended; told = change.told })))
+serving_beside script source sink log_before log_after backing_before backing_after status transcripts places (inr (inl (none, ends))) =
+    inr (inl (
+      record { transcripts = none.transcripts; places = none.places },
+      elim ends [
+        | inl stray ↦ inl (record { slot = stray.slot; id = stray.id; stopped = stray.stopped; ended = stray.ended; told = stray.told })
+        | inr rest ↦ elim rest [
+          | inl fault ↦ inr (inl (record { stopped = fault.stopped; ended = fault.ended; told = fault.told }))
+          | inr rest ↦ elim rest [
+            | inl fault ↦ inr (inr (inl (record { stopped = fault.stopped; ended = fault.ended; told = fault.told })))
+            | inr change ↦ inr (inr (inr (record { found = change.found; recovered = change.recovered; fewer = change.fewer; ended = change.ended; told = change.told })))
+          ]
+        ]
+      ],
+    ))
 serving_beside script source sink log_before log_after backing_before backing_after status transcripts places (inr (inr served)) =
     inr (inr (record { found = served.found; ids = served.ids; log_failed = served.log_failed; backing_failed = served.backing_failed; session = served.session; ends = served.ends }))
 

@@ -5,15 +5,21 @@ use Rattle.wb_super.specs.Found as super
 use Rattle.wb_super.specs.declared.reading.SuperRefused.{SuperRefused}
 use Rattle.wb_super.specs.declared.reading.SuperRefused.TheVariants as refused
 use Rattle.wb_script.specs.Content.{ScriptContent}
+use Rattle.wb_replay.specs.declared.replaying.ReplayStop.{ReplayStop}
+use Rattle.wb_replay.specs.declared.replaying.ReplayStop.TheVariants as replay
+use Rattle.wb_replay.proofs.Turns.{synced_by_reads}
+use Rattle.wb_engine.specs.Opening.{HasStopped, cause_of}
+use Rattle.wb_engine.specs.Opening as engine
+use Rattle.wb_engine.specs.declared.opening.OpenCause.{OpenCause}
 use Rattle.wb_engine.specs.declared.opening.OpenCause.TheVariants as opening
-use Rattle.wb_serve.specs.Session.{devices, IsUntouched, IsUnserved, SaysLogFault, SaysBackingFault}
+use Rattle.wb_serve.specs.Session.{devices, IsUnserved, SaysLogFault, SaysBackingFault}
 use Rattle.wb_serve.specs.declared.serving.Session.{Session}
 use Rattle.wb_serve.specs.declared.serving.ServeStop.{ServeStop}
 use Rattle.wb_serve.specs.declared.serving.ServeStop.TheVariants as stop
-use Rattle.wb_tool.specs.Run.{Lent, Run, run_of, no_source, Took}
+use Rattle.wb_tool.specs.Run.{Lent, Run, run_of, no_source, NoSession, Took}
 use Rattle.wb_tool.specs.Texts.{super_status, super_line, small_line, spent_record_line, changed_line, stray_line, failed_line}
 use Rattle.wb_geometry.specs.declared.which.Which.TheVariants.{Log, Backing}
-use Rattle.wb_tool.specs.Serve.{IsUnbegun, IsBrokenOff, IsLeftBy}
+use Rattle.wb_tool.specs.Serve.{IsUnbegun, IsLeftBy}
 use Rattle.wb_tool.specs.Stages.{Leaves, EndsServing, EndsUnserved}
 use Rattle.wb_tool.proofs.Sessions.{counts_same}
 
@@ -45,13 +51,13 @@ super_at_6 (refused.Record found) six = absurd (omega arith)
 told_leaves : (Ends Wants : Run → Type 0) (run : Run) (known : ℕ) (LogFailed BackingFailed P : Type 0)
     → CountsFaultsWhere LogFailed run.before.log.faults run.after.log.faults → CountsFaultsWhere BackingFailed run.before.backing.faults run.after.backing.faults
     → (LogFailed → known ≡ 6) → (known ≡ 6 → LogFailed) → (BackingFailed → known ≡ 7) → (known ≡ 7 → BackingFailed)
-    → Wants run → (run.status ≡ 1) ⊎ ((run.status ≡ known) × P) → (run.status ≡ known → P → Ends run) → Leaves Ends Wants run
+    → (run.status ≡ 1 → Wants run) → (run.status ≡ 1) ⊎ ((run.status ≡ known) × P) → (run.status ≡ known → P → Ends run) → Leaves Ends Wants run
 told_leaves Ends Wants run known LogFailed BackingFailed P log backing to_6 from_6 to_7 from_7 wants (inl one) ends =
-    record { log_faults = λ some. absurd (some one); backing_faults = λ some. absurd (some one); wanting = λ is. wants; ends = inl one }
+    record { log_faults = λ some. absurd (some one); backing_faults = λ some. absurd (some one); wanting = wants; ends = inl one }
 told_leaves Ends Wants run known LogFailed BackingFailed P log backing to_6 from_6 to_7 from_7 wants (inr (ended, told)) ends = record {
   log_faults = λ some. counts_same LogFailed (run.status ≡ 6) run.before.log.faults run.after.log.faults (λ failed. ended ∙ to_6 failed) (λ six. from_6 (sym ended ∙ six)) log;
   backing_faults = λ some other. counts_same BackingFailed (run.status ≡ 7) run.before.backing.faults run.after.backing.faults (λ failed. ended ∙ to_7 failed) (λ seven. from_7 (sym ended ∙ seven)) backing;
-  wanting = λ is. wants;
+  wanting = wants;
   ends = inr (ends ended told);
 }
 
@@ -71,29 +77,67 @@ no_log_fault why not_super not_log (inr is) = not_log is
 -- a cause that is neither of the two faults
 quiet_stop : (script : ScriptContent) (sink : Lent) (log_before log_after backing_before backing_after : State) (status known : ℕ) (why : ServeStop) (P : Type 0)
     → CountsStop log_before log_after backing_before backing_after why → why ≢ stop.Open opening.Memory → why ≢ stop.Open (opening.Super refused.Fault) → why ≢ stop.Open opening.LogFault → why ≢ stop.Open opening.BackingFault → known ≢ 6 → known ≢ 7
-    → IsLeftBy script (Unserved sink log_before log_after backing_before backing_after status)
+    → (status ≡ 1 → IsLeftBy script (Unserved sink log_before log_after backing_before backing_after status))
     → (status ≡ 1) ⊎ ((status ≡ known) × P) → (status ≡ known → P → EndsServing script (Unserved sink log_before log_after backing_before backing_after status))
     → Leaves (EndsServing script) (IsLeftBy script) (Unserved sink log_before log_after backing_before backing_after status)
 quiet_stop script sink log_before log_after backing_before backing_after status known why P counts other not_super not_log not_backing not_6 not_7 left told ends =
     told_leaves (EndsServing script) (IsLeftBy script) (Unserved sink log_before log_after backing_before backing_after status) known (SaysLogFault (Err why)) (SaysBackingFault (Err why)) P
     (counts.log other) (counts.backing other) (λ failed. absurd (no_log_fault why not_super not_log failed)) (λ six. absurd (not_6 six)) (λ failed. absurd (not_backing failed)) (λ seven. absurd (not_7 seven)) left told ends
 
--- a cause before either device is synced, and one behind that
-early_run : (early : Type 0) (sink : Lent) (log_before log_after backing_before backing_after : State) (status : ℕ) → early → IsUntouched early (devices log_before backing_before) (devices log_after backing_after)
-    → IsUnbegun (Unserved sink log_before log_after backing_before backing_after status)
-early_run early sink log_before log_after backing_before backing_after status is untouched =
-    record { no_session = record { transcripts = refl; places = refl }; backing = untouched.early_backing is; log = untouched.early_log is }
+-- ---- recovery that wasn't begun
 
-late_run : (early : Type 0) (sink : Lent) (log_before log_after backing_before backing_after : State) (status : ℕ) → IsUntouched early (devices log_before backing_before) (devices log_after backing_after)
-    → IsBrokenOff (Unserved sink log_before log_after backing_before backing_after status)
-late_run early sink log_before log_after backing_before backing_after status untouched =
-    record { no_session = record { transcripts = refl; places = refl }; log = untouched.log; backing = untouched.backing }
+unbegun_run : (sink : Lent) (log_before log_after backing_before backing_after : State) (status : ℕ) → engine.IsUnbegun log_before log_after backing_before backing_after
+    → IsUnbegun (Unserved sink log_before log_after backing_before backing_after status)
+unbegun_run sink log_before log_after backing_before backing_after status unbegun =
+    record { no_session = record { transcripts = refl; places = refl }; backing = unbegun.uncalled; log = unbegun.only_read }
+
+left_unbegun : (script : ScriptContent) (sink : Lent) (log_before log_after backing_before backing_after : State) (status : ℕ) → engine.IsUnbegun log_before log_after backing_before backing_after
+    → IsLeftBy script (Unserved sink log_before log_after backing_before backing_after status)
+left_unbegun script sink log_before log_after backing_before backing_after status unbegun = inl (synced_by_reads unbegun.only_read, synced_by_reads unbegun.uncalled.only_read)
+
+-- ---- recovery that stopped
+
+-- the cause is one of recovery
+abbrev ComesLate : OpenCause → Type 0
+ComesLate (opening.Super refused) = ⊥
+ComesLate (opening.IdsSpent recorded) = ⊥
+ComesLate (opening.Backing needs has) = ⊥
+ComesLate opening.Memory = ⊥
+ComesLate opening.LogFault = Unit {0}
+ComesLate opening.BackingFault = Unit {0}
+ComesLate (opening.Stray slot id) = Unit {0}
+
+late_of : (stopped : ReplayStop) → ComesLate (cause_of stopped)
+late_of (replay.Stray slot id) = tt
+late_of replay.LogFault = tt
+late_of replay.BackingFault = tt
+
+comes_late : (why : OpenCause) (stopped : ReplayStop) → why ≡ cause_of stopped → ComesLate why
+comes_late why stopped is = subst ComesLate (sym is) (late_of stopped)
+
+is_log : (stopped : ReplayStop) → opening.LogFault ≡ cause_of stopped → stopped ≡ replay.LogFault
+is_log (replay.Stray slot id) is = absurd (cc)
+is_log replay.LogFault is = refl
+is_log replay.BackingFault is = absurd (cc)
+
+is_backing : (stopped : ReplayStop) → opening.BackingFault ≡ cause_of stopped → stopped ≡ replay.BackingFault
+is_backing (replay.Stray slot id) is = absurd (cc)
+is_backing replay.LogFault is = absurd (cc)
+is_backing replay.BackingFault is = refl
+
+is_stray : (stopped : ReplayStop) (slot id : ℕ) → opening.Stray slot id ≡ cause_of stopped → stopped ≡ replay.Stray slot id
+is_stray (replay.Stray other number) slot id is = cc
+is_stray replay.LogFault slot id is = absurd (cc)
+is_stray replay.BackingFault slot id is = absurd (cc)
+
+no_session : (sink : Lent) (log_before log_after backing_before backing_after : State) (status : ℕ) → NoSession (Unserved sink log_before log_after backing_before backing_after status)
+no_session sink log_before log_after backing_before backing_after status = record { transcripts = refl; places = refl }
 
 -- the superblock is refused at the second reading
 super_leaves : (script : ScriptContent) (sink : Lent) (log_before log_after backing_before backing_after : State) (status : ℕ) (cause : SuperRefused)
     → CountsStop log_before log_after backing_before backing_after (stop.Open (opening.Super cause)) → super.Refuses log_before cause
     → IsUnbegun (Unserved sink log_before log_after backing_before backing_after status)
-    → IsLeftBy script (Unserved sink log_before log_after backing_before backing_after status)
+    → (status ≡ 1 → IsLeftBy script (Unserved sink log_before log_after backing_before backing_after status))
     → (status ≡ 1) ⊎ ((status ≡ super_status cause) × Took sink (super_line cause))
     → Leaves (EndsServing script) (IsLeftBy script) (Unserved sink log_before log_after backing_before backing_after status)
 super_leaves script sink log_before log_after backing_before backing_after status cause counts why unbegun left told =
@@ -113,15 +157,16 @@ stopped_leaves : (script : ScriptContent) (sink : Lent) (log_before log_after ba
     → CountsStop log_before log_after backing_before backing_after why → IsUnserved script (devices log_before backing_before) (devices log_after backing_after) why → EndsUnserved why sink status
     → Leaves (EndsServing script) (IsLeftBy script) (Unserved sink log_before log_after backing_before backing_after status)
 stopped_leaves script sink log_before log_after backing_before backing_after status (stop.Open (opening.Super cause)) counts (inl memory) told = cc
-stopped_leaves script sink log_before log_after backing_before backing_after status (stop.Open (opening.Super cause)) counts (inr (why, untouched)) told =
-    super_leaves script sink log_before log_after backing_before backing_after status cause counts why
-    (early_run _ sink log_before log_after backing_before backing_after status tt untouched) (inl (untouched.log, untouched.backing)) told.0
+stopped_leaves script sink log_before log_after backing_before backing_after status (stop.Open (opening.Super cause)) counts (inr (inr (stopped, is, has))) told = absurd (comes_late (opening.Super cause) stopped is)
+stopped_leaves script sink log_before log_after backing_before backing_after status (stop.Open (opening.Super cause)) counts (inr (inl (why, unbegun))) told =
+    super_leaves script sink log_before log_after backing_before backing_after status cause counts why (unbegun_run sink log_before log_after backing_before backing_after status unbegun) (λ one. left_unbegun script sink log_before log_after backing_before backing_after status unbegun) told.0
 stopped_leaves script sink log_before log_after backing_before backing_after status (stop.Open (opening.IdsSpent recorded)) counts (inl memory) told = cc
-stopped_leaves script sink log_before log_after backing_before backing_after status (stop.Open (opening.IdsSpent recorded)) counts (inr ((found, super, same, spent), untouched)) told =
+stopped_leaves script sink log_before log_after backing_before backing_after status (stop.Open (opening.IdsSpent recorded)) counts (inr (inr (stopped, is, has))) told = absurd (comes_late (opening.IdsSpent recorded) stopped is)
+stopped_leaves script sink log_before log_after backing_before backing_after status (stop.Open (opening.IdsSpent recorded)) counts (inr (inl ((found, super, same, spent), unbegun))) told =
     quiet_stop script sink log_before log_after backing_before backing_after status 10 (stop.Open (opening.IdsSpent recorded)) (Took sink (spent_record_line recorded))
-    counts (λ e. cc) (λ e. cc) (λ e. cc) (λ e. cc) (λ e. omega arith) (λ e. omega arith) (inl (untouched.log, untouched.backing)) told
+    counts (λ e. cc) (λ e. cc) (λ e. cc) (λ e. cc) (λ e. omega arith) (λ e. omega arith) (λ one. left_unbegun script sink log_before log_after backing_before backing_after status unbegun) told
     (λ ended took. inl (
-      early_run _ sink log_before log_after backing_before backing_after status tt untouched,
+      unbegun_run sink log_before log_after backing_before backing_after status unbegun,
       inr (inl (
         found,
         super,
@@ -133,11 +178,12 @@ stopped_leaves script sink log_before log_after backing_before backing_after sta
       )),
     ))
 stopped_leaves script sink log_before log_after backing_before backing_after status (stop.Open (opening.Backing needs has)) counts (inl memory) told = cc
-stopped_leaves script sink log_before log_after backing_before backing_after status (stop.Open (opening.Backing needs has)) counts (inr ((found, super, ids, needs_are, has_is, few), untouched)) told =
+stopped_leaves script sink log_before log_after backing_before backing_after status (stop.Open (opening.Backing needs has)) counts (inr (inr (stopped, is, late))) told = absurd (comes_late (opening.Backing needs has) stopped is)
+stopped_leaves script sink log_before log_after backing_before backing_after status (stop.Open (opening.Backing needs has)) counts (inr (inl ((found, super, ids, needs_are, has_is, few), unbegun))) told =
     quiet_stop script sink log_before log_after backing_before backing_after status 9 (stop.Open (opening.Backing needs has)) (Took sink (small_line Backing has needs))
-    counts (λ e. cc) (λ e. cc) (λ e. cc) (λ e. cc) (λ e. omega arith) (λ e. omega arith) (inl (untouched.log, untouched.backing)) told
+    counts (λ e. cc) (λ e. cc) (λ e. cc) (λ e. cc) (λ e. omega arith) (λ e. omega arith) (λ one. left_unbegun script sink log_before log_after backing_before backing_after status unbegun) told
     (λ ended took. inl (
-      early_run _ sink log_before log_after backing_before backing_after status tt untouched,
+      unbegun_run sink log_before log_after backing_before backing_after status unbegun,
       inr (inr (
         found,
         super,
@@ -153,45 +199,60 @@ stopped_leaves script sink log_before log_after backing_before backing_after sta
   log_faults = λ some. absurd (some told);
   backing_faults = λ some. absurd (some told);
   wanting = λ is. elim unserved [
-    | inl cut ↦ inr cut.1
-    | inr early ↦ inl (early.1.log, early.1.backing)
+    | inl cut ↦ inr (inr cut.1)
+    | inr rest ↦ elim rest [
+      | inl early ↦ left_unbegun script sink log_before log_after backing_before backing_after status early.1
+      | inr late ↦ absurd (comes_late opening.Memory late.0 late.1)
+    ]
   ];
   ends = inl told;
 }
 stopped_leaves script sink log_before log_after backing_before backing_after status (stop.Open opening.LogFault) counts (inl memory) told = cc
-stopped_leaves script sink log_before log_after backing_before backing_after status (stop.Open opening.LogFault) counts (inr ((found, may), untouched)) told =
+stopped_leaves script sink log_before log_after backing_before backing_after status (stop.Open opening.LogFault) counts (inr (inl (none, unbegun))) told = absurd none
+stopped_leaves script sink log_before log_after backing_before backing_after status (stop.Open opening.LogFault) counts (inr (inr (stopped, is, has))) told =
     told_leaves (EndsServing script) (IsLeftBy script) (Unserved sink log_before log_after backing_before backing_after status) 6
     (SaysLogFault (Err (stop.Open opening.LogFault))) (SaysBackingFault (Err (stop.Open opening.LogFault))) (Took sink (failed_line Log))
-    (counts.log (λ e. cc)) (counts.backing (λ e. cc)) (λ e. refl) (λ e. inr refl) (λ e. cc) (λ e. absurd (omega arith)) (inl (untouched.log, untouched.backing)) (inr told)
+    (counts.log (λ e. cc)) (counts.backing (λ e. cc)) (λ e. refl) (λ e. inr refl) (λ e. cc) (λ e. absurd (omega arith)) (λ one. absurd (omega (arith, one, told.0))) (inr told)
     (λ ended took. inr (inl (
-      late_run _ sink log_before log_after backing_before backing_after status untouched,
-      inr (inl (record { found = found; may = may; ended = ended; told = took })),
+      no_session sink log_before log_after backing_before backing_after status,
+      inr (inl (record {
+        stopped = subst (λ (why : ReplayStop). HasStopped why log_before log_after backing_before backing_after) (is_log stopped is) has;
+        ended = ended;
+        told = took;
+      })),
     )))
 stopped_leaves script sink log_before log_after backing_before backing_after status (stop.Open opening.BackingFault) counts (inl memory) told = cc
-stopped_leaves script sink log_before log_after backing_before backing_after status (stop.Open opening.BackingFault) counts (inr ((found, may), untouched)) told =
+stopped_leaves script sink log_before log_after backing_before backing_after status (stop.Open opening.BackingFault) counts (inr (inl (none, unbegun))) told = absurd none
+stopped_leaves script sink log_before log_after backing_before backing_after status (stop.Open opening.BackingFault) counts (inr (inr (stopped, is, has))) told =
     told_leaves (EndsServing script) (IsLeftBy script) (Unserved sink log_before log_after backing_before backing_after status) 7
     (SaysLogFault (Err (stop.Open opening.BackingFault))) (SaysBackingFault (Err (stop.Open opening.BackingFault))) (Took sink (failed_line Backing))
-    (counts.log (λ e. cc)) (counts.backing (λ e. cc)) (λ e. absurd (no_log_fault (stop.Open opening.BackingFault) (λ e. cc) (λ e. cc) e)) (λ e. absurd (omega arith)) (λ e. refl) (λ e. refl) (inl (untouched.log, untouched.backing)) (inr told)
+    (counts.log (λ e. cc)) (counts.backing (λ e. cc)) (λ e. absurd (no_log_fault (stop.Open opening.BackingFault) (λ e. cc) (λ e. cc) e)) (λ e. absurd (omega arith)) (λ e. refl) (λ e. refl) (λ one. absurd (omega (arith, one, told.0))) (inr told)
     (λ ended took. inr (inl (
-      late_run _ sink log_before log_after backing_before backing_after status untouched,
-      inr (inr (inl (record { found = found; may = may; ended = ended; told = took }))),
+      no_session sink log_before log_after backing_before backing_after status,
+      inr (inr (inl (record {
+        stopped = subst (λ (why : ReplayStop). HasStopped why log_before log_after backing_before backing_after) (is_backing stopped is) has;
+        ended = ended;
+        told = took;
+      }))),
     )))
 stopped_leaves script sink log_before log_after backing_before backing_after status (stop.Open (opening.Stray slot id)) counts (inl memory) told = cc
-stopped_leaves script sink log_before log_after backing_before backing_after status (stop.Open (opening.Stray slot id)) counts (inr ((found, may, stray), untouched)) told =
+stopped_leaves script sink log_before log_after backing_before backing_after status (stop.Open (opening.Stray slot id)) counts (inr (inl (none, unbegun))) told = absurd none
+stopped_leaves script sink log_before log_after backing_before backing_after status (stop.Open (opening.Stray slot id)) counts (inr (inr (stopped, is, has))) told =
+    let stray = subst (λ (why : ReplayStop). HasStopped why log_before log_after backing_before backing_after) (is_stray stopped slot id is) has in
     quiet_stop script sink log_before log_after backing_before backing_after status 8 (stop.Open (opening.Stray slot id)) (Took sink (stray_line slot id))
-    counts (λ e. cc) (λ e. cc) (λ e. cc) (λ e. cc) (λ e. omega arith) (λ e. omega arith) (inl (untouched.log, untouched.backing)) told
+    counts (λ e. cc) (λ e. cc) (λ e. cc) (λ e. cc) (λ e. omega arith) (λ e. omega arith) (λ one. inl (stray.so_far.0, stray.so_far.2)) told
     (λ ended took. inr (inl (
-      late_run _ sink log_before log_after backing_before backing_after status untouched,
-      inl (record { found = found; may = may; slot = slot; id = id; stray = stray; ended = ended; told = took }),
+      no_session sink log_before log_after backing_before backing_after status,
+      inl (record { slot = slot; id = id; stopped = stray; ended = ended; told = took }),
     )))
-stopped_leaves script sink log_before log_after backing_before backing_after status (stop.Changed parsed found) counts (parsed_is, fewer, (sup, may, none, found_is), untouched) told =
+stopped_leaves script sink log_before log_after backing_before backing_after status (stop.Changed parsed found) counts (parsed_is, fewer, (sup, recovered, found_is)) told =
     quiet_stop script sink log_before log_after backing_before backing_after status 8 (stop.Changed parsed found) (Took sink (changed_line parsed found))
-    counts (λ e. cc) (λ e. cc) (λ e. cc) (λ e. cc) (λ e. omega arith) (λ e. omega arith) (inl (untouched.log, untouched.backing)) told
+    counts (λ e. cc) (λ e. cc) (λ e. cc) (λ e. cc) (λ e. omega arith) (λ e. omega arith) (λ one. inr (inl (sup, recovered))) told
     (λ ended took. inr (inl (
-      late_run _ sink log_before log_after backing_before backing_after status untouched,
+      no_session sink log_before log_after backing_before backing_after status,
       inr (inr (inr (record {
         found = sup;
-        super = may.super;
+        recovered = recovered;
         fewer = omega (arith, parsed_is, found_is, fewer);
         ended = ended;
         told = subst (λ (n : ℕ). Took sink (changed_line n sup.geometry.backing_sectors)) parsed_is (subst (λ (n : ℕ). Took sink (changed_line parsed n)) found_is took);

@@ -4,8 +4,9 @@ use Rattle.wb_geometry.specs.Image.{Image}
 use Rattle.wb_geometry.specs.Layout.{log_sectors}
 use Rattle.wb_geometry.specs.Device.{IsUncalled}
 use Rattle.wb_geometry.specs.declared.geometry.Geometry.{Geometry}
-use Rattle.wb_super.specs.Superblock.{SuperText, record_of, header_id}
+use Rattle.wb_super.specs.Superblock.{SuperText, record_of}
 use Rattle.wb_super.specs.Found.{most_record}
+use Rattle.wb_crash.specs.Chain.{IsTidy}
 use Rattle.wb_script.specs.Content.{ScriptContent}
 use Rattle.wb_script.specs.Grammar.{IsScript}
 use Rattle.wb_tool.specs.declared.command.Command.{Command}
@@ -41,10 +42,6 @@ pub record TellsFormatted (run : Run) (g : Geometry) : Type 0 where
   pub told : run.before.log.content ≡ Some image
   pub text : SuperText image g 1
   pub bounded : record_of image ≤ most_record
-
--- no slot of this log has an id above its record
-abbrev pub IsTidy : Geometry → Image → Type 0
-IsTidy g image = (slot : ℕ) → slot < g.slots → header_id g image slot ≤ record_of image
 
 -- the record of this log leaves ids for each session of a script
 abbrev pub LeavesIds : Geometry → Image → Type 0

@@ -9,8 +9,10 @@ use Rattle.wb_super.specs.declared.reading.Super.{Super}
 use Rattle.wb_script.specs.Grammar.{most_bytes}
 use Rattle.wb_script.specs.Content.{ScriptContent}
 use Rattle.wb_script.specs.declared.refusal.Cause.{Cause}
-use Rattle.wb_engine.specs.Opening.{most_recorded, MayOpen, RefusesSlots, IsOnlySynced}
-use Rattle.wb_engine.specs.declared.opening.OpenCause.TheVariants.{Stray}
+use Rattle.wb_replay.specs.Replaying.{IsOnlySynced}
+use Rattle.wb_replay.specs.declared.replaying.ReplayStop.{ReplayStop}
+use Rattle.wb_replay.specs.declared.replaying.ReplayStop.TheVariants as stop
+use Rattle.wb_engine.specs.Opening.{most_recorded, HasRecovered, HasStopped}
 use Rattle.wb_serve.specs.Session.{IsCutShort}
 use Rattle.wb_tool.specs.Run.{Run, HasFailed, HasNotFailed, IsUntouched, NoSession, BackingIsUncalled, Spells, Refuses, Took}
 use Rattle.wb_tool.specs.Texts.{source_line, refused_line, changed_line, stray_line, failed_line}
@@ -35,17 +37,12 @@ pub record IsUnbegun (run : Run) : Type 0 where
   pub backing : BackingIsUncalled run
   pub log : OnlyRead run.before.log run.after.log
 
--- no session began, as the cache was opened: both devices were synced at most, and the log was read
-pub record IsBrokenOff (run : Run) : Type 0 where
-  pub no_session : NoSession run
-  pub log : IsOnlySynced run.before.log run.after.log
-  pub backing : IsOnlySynced run.before.backing run.after.backing
-
 -- What a run that ended for want of memory left of the devices, where the source held this script: they were read and synced
--- at most, or are as a session of the first requests of each client leaves them.
+-- at most, or recovered, or are as a session of the first requests of each client leaves them.
 abbrev pub IsLeftBy : ScriptContent → Run → Type 0
 IsLeftBy script run =
     (IsOnlySynced run.before.log run.after.log × IsOnlySynced run.before.backing run.after.backing)
+    ⊎ ((found : Super) × HasRecovered found run.before.log run.after.log run.before.backing run.after.backing)
     ⊎ ((found : Super) × IsCutShort found script run.before run.after)
 
 -- before a script is found nothing is done with the devices but that the log is read
@@ -56,34 +53,36 @@ OnlyLogRead run = OnlyRead run.before.log run.after.log × BackingIsUncalled run
 abbrev pub IsLeftFrom : (sectors : ℕ) → Run → Type 0
 IsLeftFrom sectors run = OnlyLogRead run ⊎ ((script : ScriptContent) × Spells sectors run.source script × IsLeftBy script run)
 
--- a slot of the log has an id above the record, and it is the first that has
+-- recovery stopped so
+abbrev pub Stops : ReplayStop → Run → Type 0
+Stops why run = HasStopped why run.before.log run.after.log run.before.backing run.after.backing
+
+-- a slot of the log has an id that is too high, and it is the first that has
 pub record EndsByStray (run : Run) : Type 0 where
-  pub found : Super
-  pub may : MayOpen run.before.log run.before.backing.sectors found
   pub slot : ℕ
   pub id : ℕ
-  pub stray : RefusesSlots found.geometry found.recorded run.before.log (Stray slot id)
+  pub stopped : Stops (stop.Stray slot id) run
   pub ended : run.status ≡ 8
   pub told : Took run.sink (stray_line slot id)
 
 -- the device failed as the cache was opened
-pub record EndsByFault (device : Which) (status : ℕ) (run : Run) : Type 0 where
-  pub found : Super
-  pub may : MayOpen run.before.log run.before.backing.sectors found
+pub record EndsByFault (device : Which) (why : ReplayStop) (status : ℕ) (run : Run) : Type 0 where
+  pub stopped : Stops why run
   pub ended : run.status ≡ status
   pub told : Took run.sink (failed_line device)
 
--- the cache has fewer backing sectors than the script was made for
+-- the cache, which was recovered, has fewer backing sectors than the script was made for
 pub record EndsByChange (parsed : ℕ) (run : Run) : Type 0 where
   pub found : Super
-  pub super : IsSuper run.before.log found
+  pub recovered : HasRecovered found run.before.log run.after.log run.before.backing run.after.backing
   pub fewer : found.geometry.backing_sectors < parsed
   pub ended : run.status ≡ 8
   pub told : Took run.sink (changed_line parsed found.geometry.backing_sectors)
 
--- what ends a run as the cache is opened behind a good script
+-- no session began, as the cache was opened behind a good script
 abbrev pub IsStopped : (parsed : ℕ) → Run → Type 0
-IsStopped parsed run = EndsByStray run ⊎ EndsByFault Log 6 run ⊎ EndsByFault Backing 7 run ⊎ EndsByChange parsed run
+IsStopped parsed run = NoSession run
+    × (EndsByStray run ⊎ EndsByFault Log stop.LogFault 6 run ⊎ EndsByFault Backing stop.BackingFault 7 run ⊎ EndsByChange parsed run)
 
 -- the cache can't be opened, and that is seen before the source is read
 pub record IsUnserved (run : Run) : Type 0 where
@@ -116,7 +115,7 @@ pub record IsScripted (sectors : ℕ) (run : Run) : Type 0 where
   pub script : ScriptContent
   pub spelled : Spells sectors run.source script
   pub at_end : IsAtEnd run.source.after
-  pub ends : (IsUnbegun run × IsUnopened run) ⊎ (IsBrokenOff run × IsStopped script.sectors run)
+  pub ends : (IsUnbegun run × IsUnopened run) ⊎ IsStopped script.sectors run
       ⊎ Served script run
 
 -- both devices are good, and ids are left: a script is read, and served where it is good

@@ -10,7 +10,7 @@ use Rattle.wb_serve.specs.declared.serving.ServeStop.TheVariants as stop
 use Rattle.wb_tool.specs.Run.{Lent, Run, IsUntouched, Took}
 use Rattle.wb_tool.specs.Texts.{super_line, super_status, small_line, spent_record_line, spent_line, changed_line, stray_line, failed_line}
 use Rattle.wb_tool.specs.Served.{Served, IsFine}
-use Rattle.wb_tool.specs.Serve.{IsUnbegun, IsBrokenOff, IsUnopened, IsStopped, EndsBySource, EndsByScript, IsScripted}
+use Rattle.wb_tool.specs.Serve.{IsUnbegun, IsUnopened, IsStopped, EndsBySource, EndsByScript, IsScripted}
 
 -- Where memory was wanting only the devices are spoken of; else the faults of both are told by the status, and the run ended
 -- so.
@@ -22,7 +22,7 @@ pub record Leaves (Ends Wants : Run → Type 0) (run : Run) : Type 0 where
 
 -- the ends from the session on
 abbrev pub EndsServing : ScriptContent → Run → Type 0
-EndsServing script run = (IsUnbegun run × IsUnopened run) ⊎ (IsBrokenOff run × IsStopped script.sectors run)
+EndsServing script run = (IsUnbegun run × IsUnopened run) ⊎ IsStopped script.sectors run
     ⊎ Served script run
 
 -- the ends from the source on

@@ -39,7 +39,7 @@ spent_line place = codes "wblog: ids spent, place " ++ decimal place ++ newline
 abbrev pub changed_line : (parsed found : ℕ) → List ℕ
 changed_line parsed found = codes "wblog: log image: changed " ++ decimal parsed ++ codes " " ++ decimal found ++ newline
 
--- a slot of the log has an id above the record
+-- a slot of the log has an id that is too high
 abbrev pub stray_line : (slot id : ℕ) → List ℕ
 stray_line slot id = codes "wblog: log image: stray slot " ++ decimal slot ++ codes " id " ++ decimal id ++ newline
 

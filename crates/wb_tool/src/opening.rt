@@ -70,7 +70,7 @@ pub fn refuse_change<K: Sink>(alloc: Global, sink: &mut K, parsed: u64, found: u
     status::IMAGE
 }
 
-/// Tells which slot of the log has an id above the record. Answers the status.
+/// Tells which slot of the log has an id that is too high. Answers the status.
 pub fn refuse_stray<K: Sink>(alloc: Global, sink: &mut K, slot: u32, id: u64) -> u8
     ensures { (result ≡ 1) ⊎ ((result ≡ 8)
         × Took (lent (K.taken sink.old) (K.taken sink.new) (K.faults sink.old) (K.faults sink.new)) (stray_line slot id)) }

@@ -52,9 +52,9 @@ impl<L: Device, B: Device> Outcome<L, B> {
 /// devices: the answers go to the sink, and at the end the backing device holds what the script wrote. `format LOG BACKING
 /// ORDER SLOTS RAM` makes an empty log for the whole blocks of the backing device, and `inspect LOG BACKING` tells the
 /// superblock and the record of one; with a number behind it, what is in that slot. Words of another form are refused.
-/// Where no session began, the backing device is as it was, and only `format` writes to the log. At status 1, want of
-/// memory, nothing is said of the output; what `serve` then leaves of the devices, or a crash does, is what a session of the
-/// first of each client's requests leaves.
+/// `serve` recovers both devices before its session; where none began, recovery may have been made, wholly or in part, and
+/// made again it comes to the same. At status 1, want of memory, nothing is said of the output; what `serve` then leaves of
+/// the devices, or a crash does, is what recovery or a session of the first of each client's requests leaves.
 pub fn run_single<S: Source, K: Sink, L: Device, B: Device>(
     alloc: Global,
     words: &[String],

@@ -61,7 +61,7 @@ pub fn changed_text(alloc: Global, parsed: u64, found: u64) -> Result<String, Al
     format!(in alloc; "wblog: log image: changed {parsed} {found}\n")
 }
 
-/// The line for a slot of the log whose id is above the record.
+/// The line for a slot of the log whose id is too high.
 pub fn stray_text(alloc: Global, slot: u32, id: u64) -> Result<String, AllocError>
     ensures { IfOk result (λ text. string_bytes text ≡ stray_line slot id) }
 {

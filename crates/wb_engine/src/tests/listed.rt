@@ -1,7 +1,7 @@
 //! The engine beside a plain list of what was written.
 use super::{
-    FIRST, FORMER, NOWHERE, SECTOR_BYTES, are_filled, cache_over, holds, new_backing, new_log, put,
-    reads_as, spots_of, turn, write,
+    FORMER, NOWHERE, OPENED, SECTOR_BYTES, are_filled, cache_over, holds, new_backing, new_log,
+    put, reads_as, spots_of, turn, write,
 };
 use crate::{Closed, Engine, Turn};
 use std::alloc::Global;
@@ -77,7 +77,7 @@ impl Plain {
     /// Takes a write of these sectors.
     fn write(&mut self, part: &Part, fill: u8) {
         let spot = Spot {
-            id: u64::from(FIRST + 1).wrapping_add(u64::from(self.absorbed / 3)),
+            id: u64::from(OPENED + 1).wrapping_add(u64::from(self.absorbed / 3)),
             index: self.index_of(part.block),
         };
         let from = usize::from(part.from);
@@ -116,7 +116,7 @@ impl Plain {
     fn spots_of(&self, block: u8) -> Option<[Spot; 8]> {
         let mut spots = self.blocks.get(usize::from(block))?.spots;
         for spot in &mut spots {
-            if spot.id <= u64::from(FIRST) + u64::from(self.recorded) {
+            if spot.id <= u64::from(OPENED) + u64::from(self.recorded) {
                 *spot = NOWHERE;
             }
         }
@@ -140,7 +140,8 @@ fn has_numbers(engine: &Cache, plain: &Plain) -> bool {
     engine.absorbed() == u64::from(plain.absorbed)
         && engine.limit() == 3 * (u64::from(plain.logged) + 2)
         && engine.stable() == 3 * u64::from(plain.stable)
-        && engine.recorded() == u64::from(FIRST) + u64::from(plain.recorded)
+        && engine.first() == u64::from(OPENED)
+        && engine.recorded() == u64::from(OPENED) + u64::from(plain.recorded)
         && engine.down().is_none()
 }
 

@@ -35,8 +35,8 @@ const ROWS: [(u32, Option<u64>, u32, Result<u64, OpenCause>); 6] = [
         56,
         Err(OpenCause::Backing { needs: 64, has: 56 }),
     ),
-    (2176, Some(MOST_RECORDED), 64, Ok(MOST_RECORDED)),
-    (2176, Some(0), 72, Ok(0)),
+    (2176, Some(MOST_RECORDED), 64, Ok(MOST_RECORDED + 4)),
+    (2176, Some(0), 72, Ok(4)),
 ];
 
 const NO_FRONT: SuperRefused = SuperRefused::Small {
@@ -77,15 +77,19 @@ fn log_with(alloc: Global, ids: &[u64; 4]) -> Result<SteadyDevice, Fail> {
     Ok(log)
 }
 
-/// The ids in the slots of a log, and what is answered.
-const STRAYS: [([u64; 4], Result<u64, OpenCause>); 3] = [
-    ([7, 0, 6, 7], Ok(7)),
-    ([7, 6, 9, 8], Err(OpenCause::Stray { slot: 2, id: 9 })),
-    ([8, 9, 0, 0], Err(OpenCause::Stray { slot: 0, id: 8 })),
+/// The ids in the slots of a log, and what is answered: the record is 7, and there are four slots.
+const STRAYS: [([u64; 4], Result<u64, OpenCause>); 6] = [
+    ([7, 0, 6, 7], Ok(11)),
+    // the id of the segment behind the record, without a text
+    ([7, 0, 6, 8], Ok(11)),
+    ([11, 11, 11, 11], Ok(11)),
+    ([7, 6, 13, 12], Err(OpenCause::Stray { slot: 2, id: 13 })),
+    ([12, 13, 0, 0], Err(OpenCause::Stray { slot: 0, id: 12 })),
+    ([11, 11, 11, 12], Err(OpenCause::Stray { slot: 3, id: 12 })),
 ];
 
 #[test]
-fn an_id_above_the_record_is_refused(rt: HostRuntime) -> Result<(), Fail> {
+fn an_id_above_the_record_and_the_slots_is_refused(rt: HostRuntime) -> Result<(), Fail> {
     for (ids, want) in &STRAYS {
         let log = log_with(rt.alloc(), ids)?;
         let found = opened(rt.alloc(), log, SECTORS)?;
@@ -98,11 +102,18 @@ fn an_id_above_the_record_is_refused(rt: HostRuntime) -> Result<(), Fail> {
 const NEVER: u64 = u64::MAX;
 
 /// The calls from which on the log and the backing device fail, what is answered, and how many calls of each were made.
-const FAILING: [(u64, u64, OpenCause, u64, u64); 4] = [
+const FAILING: [(u64, u64, OpenCause, u64, u64); 11] = [
+    (0, 0, OpenCause::Super(SuperRefused::Fault), 1, 0),
     (1, NEVER, OpenCause::Super(SuperRefused::Fault), 2, 0),
     (2, NEVER, OpenCause::LogFault, 3, 0),
+    (2, 0, OpenCause::LogFault, 3, 0),
     (NEVER, 0, OpenCause::BackingFault, 3, 1),
+    (3, 0, OpenCause::BackingFault, 3, 1),
     (4, NEVER, OpenCause::LogFault, 5, 1),
+    (7, 1, OpenCause::LogFault, 8, 1),
+    (8, 1, OpenCause::BackingFault, 8, 2),
+    (8, NEVER, OpenCause::LogFault, 9, 2),
+    (9, NEVER, OpenCause::LogFault, 10, 2),
 ];
 
 /// Why a cache over devices that fail isn't opened, and how many calls of each were made.
@@ -131,7 +142,7 @@ fn a_device_that_fails_is_refused(rt: HostRuntime) -> Result<(), Fail> {
 /// Why a cache is refused over a log with a stray id in the third slot that fails from the next read on, and how many calls
 /// of the log were made.
 fn refused_before_it_fails(alloc: Global) -> Result<Option<(OpenCause, u64)>, Fail> {
-    let bytes = log_with(alloc, &[7, 6, 9, 8])?.into_bytes();
+    let bytes = log_with(alloc, &[7, 6, 13, 12])?.into_bytes();
     let log = MemoryDevice::of(alloc, bytes, stopping_at(alloc, 6))?;
     let backing = SteadyDevice::of(former_bytes(alloc, SECTORS)?);
     Ok(match Engine::open(alloc, log, backing) {
@@ -143,6 +154,6 @@ fn refused_before_it_fails(alloc: Global) -> Result<Option<(OpenCause, u64)>, Fa
 #[test]
 fn no_slot_is_read_behind_a_stray_one(rt: HostRuntime) -> Result<(), Fail> {
     let found = refused_before_it_fails(rt.alloc())?;
-    assert!(rt; found == Some((OpenCause::Stray { slot: 2, id: 9 }, 6)));
+    assert!(rt; found == Some((OpenCause::Stray { slot: 2, id: 13 }, 6)));
     Ok(())
 }

@@ -1,7 +1,8 @@
 //! Where a sector is read from, and slots that are taken again.
+use super::recovered::{leave_two, see_recovered};
 use super::{
-    LOG_SECTORS, NOWHERE, cache_over, holds, log_of, new_backing, new_log, put, reads_as,
-    reads_third, spots_of, turn, write, write_third,
+    LOG_SECTORS, NOWHERE, SECTOR_BYTES, SECTORS, are_filled, cache_over, holds, log_of,
+    new_backing, new_log, put, reads_as, reads_third, spots_of, turn, write, write_third,
 };
 use crate::{Closed, Engine, Turn};
 use std::alloc::Global;
@@ -10,10 +11,10 @@ use wb_device::SteadyDevice;
 use wb_geometry::{Entry, Geometry, Part, Spot};
 use wb_super::{format, read_super};
 
-type Cache = Engine<SteadyDevice, SteadyDevice>;
+pub(super) type Cache = Engine<SteadyDevice, SteadyDevice>;
 
 /// Some sectors are in the log, some in memory, and the rest on the backing device.
-fn write_in_two_segments(alloc: Global, engine: &mut Cache) -> Result<(), Fail> {
+pub(super) fn write_in_two_segments(alloc: Global, engine: &mut Cache) -> Result<(), Fail> {
     let first = Part {
         block: 0,
         from: 0,
@@ -33,16 +34,20 @@ fn write_in_two_segments(alloc: Global, engine: &mut Cache) -> Result<(), Fail> 
     holds(wrote, "no room for the second")
 }
 
+/// The bytes of those sectors where each sector of the backing device has its own byte, and where all have the same.
+pub(super) const OVER_FORMER: [u8; 8] = [0x01, 0x01, 0x02, 0x02, 104, 105, 106, 107];
+
+const OVER_SAME: [u8; 8] = [0x01, 0x01, 0x02, 0x02, 0xb0, 0xb0, 0xb0, 0xb0];
+
 /// What is read of them, and where it stands.
-fn reads_from_three(engine: &mut Cache) -> Result<(), Fail> {
-    let in_log = Spot { id: 1, index: 0 };
-    let in_memory = Spot { id: 2, index: 0 };
+fn reads_from_three(engine: &mut Cache, fills: &[u8; 8]) -> Result<(), Fail> {
+    let in_log = Spot { id: 5, index: 0 };
+    let in_memory = Spot { id: 6, index: 0 };
     let spots = [
         in_log, in_log, in_memory, in_memory, NOWHERE, NOWHERE, NOWHERE, NOWHERE,
     ];
     holds(spots_of(engine, 0) == Some(spots), "other spots")?;
-    let fills = [0x01, 0x01, 0x02, 0x02, 104, 105, 106, 107];
-    holds(reads_as(engine, 0, &fills), "other bytes")
+    holds(reads_as(engine, 0, fills), "other bytes")
 }
 
 /// What turns do once all four slots are taken and a fifth segment waits.
@@ -98,10 +103,10 @@ fn wrap(alloc: Global, engine: &mut Cache) -> Result<(), Fail> {
     let done = write_third(alloc, engine, 2)?;
     holds(done, "there was no room for the third")?;
     for want in [Turn::Synced, Turn::Backed, Turn::Backed, Turn::Recorded] {
-        holds(!engine.can_log() && engine.recorded() == 0, "too early")?;
+        holds(!engine.can_log() && engine.recorded() == 2, "too early")?;
         holds(turn(engine) == Some(Ok(want)), "a turn did something else")?;
     }
-    holds(engine.can_log() && engine.recorded() == 2, "not yet")?;
+    holds(engine.can_log() && engine.recorded() == 4, "not yet")?;
     holds(turn(engine) == Some(Ok(Turn::Logged)), "it isn't logged")?;
     holds(
         reads_third(engine, 0),
@@ -111,10 +116,13 @@ fn wrap(alloc: Global, engine: &mut Cache) -> Result<(), Fail> {
 
 /// What is done with a cache before it is closed.
 #[derive(Clone, Copy)]
-enum Play {
+pub(super) enum Play {
     ReadFromThree,
+    ReadOverSame,
     TakeAllSlots,
     Wrap,
+    LeaveTwo,
+    SeeRecovered,
 }
 
 /// Does it.
@@ -122,29 +130,36 @@ fn carry_out(alloc: Global, engine: &mut Cache, play: Play) -> Result<(), Fail> 
     match play {
         Play::ReadFromThree => {
             write_in_two_segments(alloc, engine)?;
-            reads_from_three(engine)
+            reads_from_three(engine, &OVER_FORMER)
+        }
+        Play::ReadOverSame => {
+            write_in_two_segments(alloc, engine)?;
+            reads_from_three(engine, &OVER_SAME)
         }
         Play::TakeAllSlots => {
             take_all_slots(alloc, engine)?;
             turn_to_the_end(engine)
         }
         Play::Wrap => wrap(alloc, engine),
+        Play::LeaveTwo => leave_two(alloc, engine),
+        Play::SeeRecovered => see_recovered(engine),
     }
 }
 
-/// What closing leaves of a cache over this log, with which this was done before.
-fn closed_after(
+/// What closing leaves of a cache over these devices, with which this was done before.
+pub(super) fn closed_after(
     alloc: Global,
     log: SteadyDevice,
+    backing: SteadyDevice,
     done: Play,
 ) -> Result<Closed<SteadyDevice, SteadyDevice>, Fail> {
-    let mut engine = cache_over(alloc, log, new_backing(alloc)?)?;
+    let mut engine = cache_over(alloc, log, backing)?;
     carry_out(alloc, &mut engine, done)?;
     Ok(engine.close())
 }
 
 /// Whether a log has this record, behind a cache that was closed without a fault.
-fn has_recorded(closed: &mut Closed<SteadyDevice, SteadyDevice>, recorded: u64) -> bool {
+pub(super) fn has_recorded(closed: &mut Closed<SteadyDevice, SteadyDevice>, recorded: u64) -> bool {
     closed.fault.is_none()
         && read_super(&mut closed.log).is_ok_and(|found| found.recorded == recorded)
 }
@@ -152,15 +167,34 @@ fn has_recorded(closed: &mut Closed<SteadyDevice, SteadyDevice>, recorded: u64) 
 #[test]
 fn a_block_is_read_from_wherever_it_stands(rt: HostRuntime) -> Result<(), Fail> {
     let log = log_of(rt.alloc(), LOG_SECTORS, Some(0))?;
-    let mut closed = closed_after(rt.alloc(), log, Play::ReadFromThree)?;
-    assert!(rt; has_recorded(&mut closed, 2));
+    let backing = new_backing(rt.alloc())?;
+    let mut closed = closed_after(rt.alloc(), log, backing, Play::ReadFromThree)?;
+    assert!(rt; has_recorded(&mut closed, 6));
+    assert!(rt; are_filled(closed.backing.bytes(), &OVER_FORMER));
+    Ok(())
+}
+
+/// A backing device that is full of one byte.
+fn same_backing(alloc: Global) -> Result<SteadyDevice, Fail> {
+    Ok(SteadyDevice::of(vec![in alloc; 0xb0; SECTORS as usize * SECTOR_BYTES]?))
+}
+
+#[test]
+fn the_ids_of_a_new_log_begin_behind_its_slots(rt: HostRuntime) -> Result<(), Fail> {
+    let log = log_of(rt.alloc(), LOG_SECTORS, Some(0))?;
+    let backing = same_backing(rt.alloc())?;
+    let mut closed = closed_after(rt.alloc(), log, backing, Play::ReadOverSame)?;
+    assert!(rt; has_recorded(&mut closed, 6));
+    assert!(rt; are_filled(closed.backing.bytes(), &OVER_SAME));
     Ok(())
 }
 
 #[test]
 fn a_slot_is_taken_again_once_it_is_recorded(rt: HostRuntime) -> Result<(), Fail> {
-    let mut closed = closed_after(rt.alloc(), new_log(rt.alloc())?, Play::TakeAllSlots)?;
-    assert!(rt; has_recorded(&mut closed, 12));
+    let log = new_log(rt.alloc())?;
+    let backing = new_backing(rt.alloc())?;
+    let mut closed = closed_after(rt.alloc(), log, backing, Play::TakeAllSlots)?;
+    assert!(rt; has_recorded(&mut closed, 16));
     Ok(())
 }
 
@@ -168,7 +202,8 @@ fn a_slot_is_taken_again_once_it_is_recorded(rt: HostRuntime) -> Result<(), Fail
 fn three_segments_share_two_slots(rt: HostRuntime) -> Result<(), Fail> {
     let mut log = SteadyDevice::of(vec![in rt.alloc(); 0; 2080 * 512]?);
     format(&mut log, &Geometry::new(4, 2, 2, 64)?)?;
-    let mut closed = closed_after(rt.alloc(), log, Play::Wrap)?;
-    assert!(rt; has_recorded(&mut closed, 3));
+    let backing = new_backing(rt.alloc())?;
+    let mut closed = closed_after(rt.alloc(), log, backing, Play::Wrap)?;
+    assert!(rt; has_recorded(&mut closed, 5));
     Ok(())
 }

@@ -9,8 +9,8 @@ const GOOD: &str = "clients 1\n0 w 0 1 aa\n0 r 0 1\n";
 
 const BAD: &str = "clients 1\n0 w 64 1 aa\n";
 
-// The words, the script, the status, what is printed, the lines of the transcript, and the writes.
-const COMMANDS: [(&str, &str, u8, &str, usize, &[(usize, u8)]); 8] = [
+// The words, the script, the status, what is printed, the lines of the transcript, the writes, and the record.
+const COMMANDS: [(&str, &str, u8, &str, usize, &[(usize, u8)], u64); 8] = [
     (
         "format LOG BACKING 4 6 3",
         GOOD,
@@ -18,6 +18,7 @@ const COMMANDS: [(&str, &str, u8, &str, usize, &[(usize, u8)]); 8] = [
         "formatted order 4 slots 6 ram 3 backing 64 record 0\n",
         0,
         &[],
+        0,
     ),
     (
         "inspect LOG BACKING",
@@ -26,8 +27,17 @@ const COMMANDS: [(&str, &str, u8, &str, usize, &[(usize, u8)]); 8] = [
         "version 1 order 5 slots 4 ram 2 backing 64 record 0\n",
         0,
         &[],
+        0,
     ),
-    ("inspect LOG BACKING 3", GOOD, 0, "slot 3 empty\n", 0, &[]),
+    (
+        "inspect LOG BACKING 3",
+        GOOD,
+        0,
+        "slot 3 empty\n",
+        0,
+        &[],
+        0,
+    ),
     (
         SERVE,
         GOOD,
@@ -35,9 +45,10 @@ const COMMANDS: [(&str, &str, u8, &str, usize, &[(usize, u8)]); 8] = [
         "0 w 0 1 at 0\n0 r 0 1 point 1 aa\nplaces 1\n",
         2,
         &[(0, 0xaa)],
+        5,
     ),
     // no session begins, and there is no transcript
-    ("serve LOG", GOOD, 2, "wblog: usage\n", 0, &[]),
+    ("serve LOG", GOOD, 2, "wblog: usage\n", 0, &[], 0),
     (
         "inspect LOG BACKING 4",
         GOOD,
@@ -45,8 +56,9 @@ const COMMANDS: [(&str, &str, u8, &str, usize, &[(usize, u8)]); 8] = [
         "wblog: slot 4 is not below 4\n",
         0,
         &[],
+        0,
     ),
-    (SERVE, BAD, 3, "wblog: script line 2: command\n", 0, &[]),
+    (SERVE, BAD, 3, "wblog: script line 2: command\n", 0, &[], 0),
     (
         "format LOG BACKING 5 5 2",
         GOOD,
@@ -54,12 +66,13 @@ const COMMANDS: [(&str, &str, u8, &str, usize, &[(usize, u8)]); 8] = [
         "wblog: log device has 2176 sectors, needs 2208\n",
         0,
         &[],
+        0,
     ),
 ];
 
 #[test]
 fn each_command_is_done_or_refused(rt: HostRuntime) -> Result<(), Fail> {
-    for (words, script, status, printed, lines, writes) in &COMMANDS {
+    for (words, script, status, printed, lines, writes, recorded) in &COMMANDS {
         let output = [*printed];
         let case = Case {
             words,
@@ -76,7 +89,7 @@ fn each_command_is_done_or_refused(rt: HostRuntime) -> Result<(), Fail> {
             backing_calls: None,
             writes,
             put: None,
-            recorded: Some(writes.len() as u64),
+            recorded: Some(*recorded),
         };
         comes(&rt, rt.alloc(), &case)?;
     }

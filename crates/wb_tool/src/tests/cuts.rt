@@ -197,8 +197,8 @@ fn is_cut_everywhere(
 fn a_crash_leaves_the_first_segments(rt: HostRuntime) -> Result<(), Fail> {
     let mut cuts = 0;
     for way in &WAYS {
-        cuts |= is_cut_everywhere(&rt, rt.alloc(), Which::Log, *way, 20)?;
-        cuts |= is_cut_everywhere(&rt, rt.alloc(), Which::Backing, *way, 7)?;
+        cuts |= is_cut_everywhere(&rt, rt.alloc(), Which::Log, *way, 23)?;
+        cuts |= is_cut_everywhere(&rt, rt.alloc(), Which::Backing, *way, 8)?;
     }
     assert!(rt; cuts == 15);
     Ok(())

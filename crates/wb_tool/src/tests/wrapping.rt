@@ -46,7 +46,7 @@ const REQUESTS: [(usize, Option<u8>); 14] = [
 const WRITES: [(usize, u8); 7] = [(0, 1), (8, 2), (16, 3), (1, 4), (0, 5), (24, 6), (32, 7)];
 
 // What is called of the log where nothing fails.
-const LOG_CALLS: [Call; 36] = [
+const LOG_CALLS: [Call; 39] = [
     // the cache is opened
     Read(0, 1),
     Read(2047, 1),
@@ -55,6 +55,9 @@ const LOG_CALLS: [Call; 36] = [
     Sync,
     Read(2048, 1),
     Read(2064, 1),
+    Read(2048, 16),
+    Write(2047, 1),
+    Sync,
     // the session
     Write(2048, 16),
     Read(2056, 1),
@@ -89,10 +92,12 @@ const LOG_CALLS: [Call; 36] = [
 ];
 
 // How many of them open the cache.
-const OPENING: usize = 7;
+const OPENING: usize = 10;
 
-// And of the backing device, of which a sync is called as the cache is opened.
-const BACKING_CALLS: [Call; 17] = [
+// And of the backing device.
+const BACKING_CALLS: [Call; 18] = [
+    // the cache is opened
+    Sync,
     Sync,
     // the session
     Write(0, 1),
@@ -114,63 +119,66 @@ const BACKING_CALLS: [Call; 17] = [
     Sync,
 ];
 
+// How many of these open the cache.
+const BACKING_OPENING: usize = 2;
+
 /// A call of a session: where a request reads by it, its number; how many places are taken where the device fails from here
 /// on; how many of them are in the backing image where this call alone fails, and the record then.
 type Row = (Option<usize>, usize, usize, u64);
 
 // The calls of the log in the session.
 const LOG_ROWS: [Row; 29] = [
-    (None, 2, 0, 0), // Write(2048, 16)
-    (Some(3), 3, 7, 7), // Read(2056, 1)
-    (None, 3, 0, 0), // Write(2064, 16)
-    (None, 4, 0, 0), // Sync
-    (None, 4, 0, 0), // Read(2056, 8)
-    (None, 4, 1, 0), // Read(2072, 8)
-    (None, 4, 2, 0), // Write(2047, 1)
-    (None, 4, 2, 2), // Sync
-    (None, 4, 2, 2), // Write(2048, 16)
-    (None, 5, 2, 2), // Write(2064, 16)
-    (Some(8), 6, 7, 7), // Read(2056, 1)
-    (Some(9), 6, 7, 7), // Read(2073, 1)
-    (None, 6, 2, 2), // Sync
-    (None, 6, 2, 2), // Read(2056, 8)
-    (None, 6, 3, 2), // Read(2072, 8)
-    (None, 6, 4, 2), // Write(2047, 1)
-    (None, 6, 4, 4), // Sync
-    (None, 6, 4, 4), // Write(2048, 16)
+    (None, 2, 0, 2), // Write(2048, 16)
+    (Some(3), 3, 7, 9), // Read(2056, 1)
+    (None, 3, 0, 2), // Write(2064, 16)
+    (None, 4, 0, 2), // Sync
+    (None, 4, 0, 2), // Read(2056, 8)
+    (None, 4, 1, 2), // Read(2072, 8)
+    (None, 4, 2, 2), // Write(2047, 1)
+    (None, 4, 2, 4), // Sync
+    (None, 4, 2, 4), // Write(2048, 16)
+    (None, 5, 2, 4), // Write(2064, 16)
+    (Some(8), 6, 7, 9), // Read(2056, 1)
+    (Some(9), 6, 7, 9), // Read(2073, 1)
+    (None, 6, 2, 4), // Sync
+    (None, 6, 2, 4), // Read(2056, 8)
+    (None, 6, 3, 4), // Read(2072, 8)
+    (None, 6, 4, 4), // Write(2047, 1)
+    (None, 6, 4, 6), // Sync
+    (None, 6, 4, 6), // Write(2048, 16)
     // the cache is closed
-    (None, 7, 4, 4), // Write(2064, 16)
-    (None, 7, 4, 4), // Sync
-    (None, 7, 4, 4), // Read(2056, 8)
-    (None, 7, 5, 4), // Read(2072, 8)
-    (None, 7, 6, 4), // Write(2047, 1)
-    (None, 7, 6, 6), // Sync
-    (None, 7, 6, 6), // Write(2048, 16)
-    (None, 7, 6, 6), // Sync
-    (None, 7, 6, 6), // Read(2056, 8)
-    (None, 7, 7, 6), // Write(2047, 1)
-    (None, 7, 7, 7), // Sync
+    (None, 7, 4, 6), // Write(2064, 16)
+    (None, 7, 4, 6), // Sync
+    (None, 7, 4, 6), // Read(2056, 8)
+    (None, 7, 5, 6), // Read(2072, 8)
+    (None, 7, 6, 6), // Write(2047, 1)
+    (None, 7, 6, 8), // Sync
+    (None, 7, 6, 8), // Write(2048, 16)
+    (None, 7, 6, 8), // Sync
+    (None, 7, 6, 8), // Read(2056, 8)
+    (None, 7, 7, 8), // Write(2047, 1)
+    (None, 7, 7, 9), // Sync
 ];
 
 // The calls of the backing device in the session.
 const BACKING_ROWS: [Row; 16] = [
-    (None, 4, 0, 0), // Write(0, 1)
-    (None, 4, 1, 0), // Sync
-    (None, 4, 1, 0), // Write(8, 1)
-    (None, 4, 2, 0), // Sync
-    (Some(6), 6, 7, 7), // Read(8, 1)
-    (None, 6, 2, 2), // Write(16, 1)
-    (None, 6, 3, 2), // Sync
-    (None, 6, 3, 2), // Write(1, 1)
-    (None, 6, 4, 2), // Sync
-    (Some(13), 7, 7, 7), // Read(16, 1)
+    (None, 4, 0, 2), // Write(0, 1)
+    (None, 4, 1, 2), // Sync
+    (None, 4, 1, 2), // Write(8, 1)
+    (None, 4, 2, 2), // Sync
+    (Some(6), 6, 7, 9), // Read(8, 1)
+    (None, 6, 2, 4), // Write(16, 1)
+    (None, 6, 3, 4), // Sync
+    (None, 6, 3, 4), // Write(1, 1)
+    (None, 6, 4, 4), // Sync
+    (Some(13), 7, 7, 9), // Read(16, 1)
     // the cache is closed
-    (None, 7, 4, 4), // Write(0, 1)
-    (None, 7, 5, 4), // Sync
-    (None, 7, 5, 4), // Write(24, 1)
-    (None, 7, 6, 4), // Sync
-    (None, 7, 6, 6), // Write(32, 1)
-    (None, 7, 7, 6), // Sync
+    (None, 7, 4, 6), // Write(0, 1)
+    (None, 7, 5, 6), // Sync
+    (None, 7, 5, 6), // Write(24, 1)
+    (None, 7, 6, 6), // Sync
+    (None, 7, 6, 8), // Write(32, 1)
+    (None, 7, 7, 8), // Sync
 ];
 
 /// The answers by a plain array, where so many places can be taken before the device is down by which a later write is
@@ -261,7 +269,7 @@ fn a_session_goes_round_the_log(rt: HostRuntime) -> Result<(), Fail> {
         log_calls: all_of(&LOG_CALLS),
         backing_calls: all_of(&BACKING_CALLS),
         put: Some(WRITES.len()),
-        recorded: Some(7),
+        recorded: Some(9),
         ..session(WRITES.len(), 0, Output::Exactly(&output))
     };
     comes(&rt, rt.alloc(), &case)
@@ -294,7 +302,7 @@ fn log_fails(rt: &impl Abort, alloc: Global, failing: usize, row: &Row) -> Resul
 #[test]
 fn each_call_of_the_backing_device_fails_in_turn(rt: HostRuntime) -> Result<(), Fail> {
     for (number, row) in BACKING_ROWS.iter().enumerate() {
-        backing_fails(&rt, rt.alloc(), number.saturating_add(1), row)?;
+        backing_fails(&rt, rt.alloc(), number.saturating_add(BACKING_OPENING), row)?;
     }
     Ok(())
 }
@@ -339,7 +347,7 @@ fn log_stops(rt: &impl Abort, alloc: Global, failing: usize, row: &Row) -> Resul
 #[test]
 fn a_backing_device_that_stops_shows_no_wrong_bytes(rt: HostRuntime) -> Result<(), Fail> {
     for (number, row) in BACKING_ROWS.iter().enumerate() {
-        backing_stops(&rt, rt.alloc(), number.saturating_add(1), row)?;
+        backing_stops(&rt, rt.alloc(), number.saturating_add(BACKING_OPENING), row)?;
     }
     Ok(())
 }

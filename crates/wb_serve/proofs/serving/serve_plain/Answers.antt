@@ -2,16 +2,13 @@
 use Rattle.std.proofs.Common.{◌≡◌, ◌≤◌, ◌⊎◌, [], ◌∷◌, inl, inr, refl, sym, ap, subst, ◌∙◌, arith}
 use Rattle.std.proofs.lemmas.Option.{IfSome_then}
 use Rattle.std.proofs.lemmas.Result.{IfOk-weaker, IfErr-weaker}
-use Rattle.wb_geometry.specs.Device.{State, IsUncalled}
-use Rattle.wb_geometry.proofs.Moments.{uncalled}
 use Rattle.wb_geometry.specs.declared.geometry.Geometry.{Geometry}
 use Rattle.wb_super.specs.declared.reading.SuperRefused.TheVariants as refused
-use Rattle.wb_engine.specs.Opening.{IsOnlySynced}
 use Rattle.wb_engine.specs.declared.opening.OpenCause.{OpenCause}
 use Rattle.wb_engine.specs.declared.opening.OpenCause.TheVariants as opening
 use Rattle.wb_serve.specs.declared.serving.ServeStop.TheVariants as stop
 use Rattle.wb_serve.specs.Session.{devices, IsUnserved, SaysLogFault, SaysBackingFault}
-use Rattle.wb_serve.proofs.Openings.{opening, may_open, come_opened}
+use Rattle.wb_serve.proofs.Openings.{come_opened}
 use Rattle.wb_serve.proofs.Closed.{Closes}
 use Rattle.wb_serve.proofs.Servings.{one_client, all_one, session_told, session_cut, says_fault, counts_same}
 use Rattle.wb_serve.proofs.Answering.{played_in_part}
@@ -28,7 +25,7 @@ play-played-requires-clause-asked g c =
 pub play-played-requires-clause-opened : goal.play-played-requires-clause-opened
 play-played-requires-clause-opened g c =
     let ends = c.in-Ok.ensures in
-    come_opened (opening ends.fresh c.geometry.ensures.sound ends.stands ends.synced ends.log ends.backing)
+    come_opened ends.opened
 
 pub returns : goal.returns
 returns g c =
@@ -41,7 +38,7 @@ returns g c =
     let requests = c.as_slice.result.now in
     let one : c.args.script.now.requests ≡ requests ∷ [] = one_client _ _ (omega (arith, valid.each, valid.some, valid.few)) (rw c.requests.ensures at c.index-requests-0.is) ∙ ap (λ q. q ∷ []) (sym c.as_slice.ensures) in
     let fits : c.args.script.now.sectors ≤ e.geometry.backing_sectors = omega (arith, c.if-found-parsed.false, c.sectors-parsed.ensures, ap (λ (g : Geometry). g.backing_sectors) c.geometry.ensures.geometry) in
-    let opens = opening ends.fresh c.geometry.ensures.sound ends.stands ends.synced ends.log ends.backing in
+    let opens = ends.opened in
     let closes : Closes g.L.Device.state g.B.Device.state end.fault (g.L.Device.state end.log) (g.B.Device.state end.backing) mid = record {
       content = close.content;
       empty = λ none base history stands image told. (close.empty none base history stands image told, (close.recorded none base history stands image told).0);
@@ -60,7 +57,7 @@ returns g c =
     let session = IfOk-weaker c.session_of.result _ _
     (λ s tells.
     let told = session_told c.args.script.now requests c.first-first.result c.absorbed-places.result c.play-played.result s
-    opens fits one c.play-played.ensures.played closes c.first-first.ensures c.absorbed-places.ensures tells in (ends.fresh.found, told.0, told.1))
+    opens fits one c.play-played.ensures.played closes c.first-first.ensures c.absorbed-places.ensures tells in (opens.found, told.0, told.1))
     c.session_of.ensures.told in
     let cut = session_cut c.args.script.now requests opens fits one
     (played_in_part 0 requests c.play-played.result c.play-played.ensures.played c.play-played.ensures.in_part) closes in
@@ -68,7 +65,7 @@ returns g c =
     let memory = c.session_of.ensures.memory in
     record {
       session = session;
-      unserved = IfErr-weaker c.session_of.result _ _ (λ why is. subst unserved (sym is) (inl (refl, (ends.fresh.found, cut)))) memory;
+      unserved = IfErr-weaker c.session_of.result _ _ (λ why is. subst unserved (sym is) (inl (refl, (opens.found, cut)))) memory;
       log_cause = λ other. says_fault SaysLogFault c.session_of.result _ _ (IfOk-weaker c.session_of.result _ _ (λ s is. is.1.log_cause) session) memory other;
       backing_cause = λ other. says_fault SaysBackingFault c.session_of.result _ _ (IfOk-weaker c.session_of.result _ _ (λ s is. is.1.backing_cause) session) memory other;
     }
@@ -76,22 +73,20 @@ returns g c =
 pub returns-then-found-parsed-clause-unserved : goal.returns-then-found-parsed-clause-unserved
 returns-then-found-parsed-clause-unserved g c =
     let ends = c.in-Ok.ensures in
-    let opens = opening ends.fresh c.geometry.ensures.sound ends.stands ends.synced ends.log ends.backing in
-    let sectors = ap (λ (n : Geometry). n.backing_sectors) (c.geometry.ensures.geometry ∙ ends.fresh.geometry) in (
+    let opens = ends.opened in
+    let sectors = ap (λ (n : Geometry). n.backing_sectors) (c.geometry.ensures.geometry ∙ opens.geometry) in (
       c.sectors-parsed.ensures,
       c.if-found-parsed.true,
-      (ends.fresh.found, may_open opens, ends.fresh.no_stray, sectors),
-      record {
-        log = subst (λ (now : State). IsOnlySynced (g.L.Device.state c.args.log) now) (sym (ap g.L.Device.state c.into_devices-log.ensures.log)) ends.log.0;
-        backing = subst (λ (now : State). IsOnlySynced (g.B.Device.state c.args.backing) now) (sym (ap g.B.Device.state c.into_devices-log.ensures.backing)) ends.backing.0;
-        early_log = λ early. absurd early;
-        early_backing = λ early. absurd early;
-      },
+      (
+        opens.found,
+        rw (c.into_devices-log.ensures.log, c.into_devices-log.ensures.backing) opens.recovered,
+        sectors,
+      ),
     )
 
 pub returns-then-found-parsed-clause-log_cause : goal.returns-then-found-parsed-clause-log_cause
 returns-then-found-parsed-clause-log_cause g c = λ other.
-    let quiet = ap (λ l. (g.L.Device.state l).faults) c.into_devices-log.ensures.log ∙ c.in-Ok.ensures.log.1 in
+    let quiet = ap (λ l. (g.L.Device.state l).faults) c.into_devices-log.ensures.log ∙ c.in-Ok.ensures.opened.log_faults in
     record {
       later = omega (arith, quiet);
       failed = λ is. elim is [ inl one ↦ absurd (cc) | inr two ↦ absurd (cc) ];
@@ -100,7 +95,7 @@ returns-then-found-parsed-clause-log_cause g c = λ other.
 
 pub returns-then-found-parsed-clause-backing_cause : goal.returns-then-found-parsed-clause-backing_cause
 returns-then-found-parsed-clause-backing_cause g c = λ other.
-    let quiet = ap (λ b. (g.B.Device.state b).faults) c.into_devices-log.ensures.backing ∙ c.in-Ok.ensures.backing.1 in
+    let quiet = ap (λ b. (g.B.Device.state b).faults) c.into_devices-log.ensures.backing ∙ c.in-Ok.ensures.opened.backing_faults in
     record {
       later = omega (arith, quiet);
       failed = λ is. absurd (cc);
@@ -108,18 +103,7 @@ returns-then-found-parsed-clause-backing_cause g c = λ other.
     }
 
 pub returns-in-Err-clause-unserved : goal.returns-in-Err-clause-unserved
-returns-in-Err-clause-unserved g c =
-    let ends = c.in-Err.ensures in
-    inr (
-      ends.refused,
-      record {
-        log = ends.stop_log;
-        backing = ends.stop_backing;
-        early_log = λ early. (ends.early early).0;
-        early_backing = λ early.
-            subst (λ (now : State). IsUncalled (g.B.Device.state c.args.backing) now) (sym (ap g.B.Device.state (ends.early early).1)) (uncalled (g.B.Device.state c.args.backing));
-      },
-    )
+returns-in-Err-clause-unserved g c = inr c.in-Err.ensures.refused
 
 pub returns-in-Err-clause-log_cause : goal.returns-in-Err-clause-log_cause
 returns-in-Err-clause-log_cause g c = λ other.

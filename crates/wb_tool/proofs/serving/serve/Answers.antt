@@ -31,6 +31,7 @@ returns-then-sectors-geometry g c =
 pub returns : goal.returns
 returns g c =
     let read = c.read_super.ensures in
-    serve_account _ _ c.in-Ok.found read.only_read (read_kept c.read_super.result c.in-Ok.found _ _ c.in-Ok.is read.cause) c.in-Ok.ensures.found
+    serve_account _ _ c.in-Ok.found
+    (record { read = read.only_read; on_log = g.met.L.Device.sound c.args.log; on_backing = g.met.B.Device.sound c.args.backing }) (read_kept c.read_super.result c.in-Ok.found _ _ c.in-Ok.is read.cause) c.in-Ok.ensures.found
     (omega (arith, c.most_recorded.ensures, c.if-found-most_recorded.false)) (omega (arith, c.sectors-sectors.ensures, c.if-sectors-geometry.false))
     c.serve_source.ensures
