@@ -1,5 +1,5 @@
 -- Lemmas on what a run answers for.
-use Rattle.std.proofs.Common.{◌≡◌, ◌≢◌, ◌⊎◌, List, length, ℕ, ap, sym, subst, ◌∙◌, arith, inl, inr, refl, Option, Some, None, IfSome, Result, Ok, Err}
+use Rattle.std.proofs.Common.{◌≡◌, ◌≢◌, ◌⊎◌, List, [], slice_index_or, length, ℕ, ap, sym, subst, ◌∙◌, arith, inl, inr, refl, Option, Some, None, IfSome, Result, Ok, Err}
 use Rattle.wb_geometry.specs.Device.{State, OnlyRead, CountsFaultsWhere}
 use Rattle.wb_super.specs.Found.{IsSuper}
 use Rattle.wb_super.specs.declared.reading.Super.{Super}
@@ -15,11 +15,12 @@ use Rattle.wb_tool.specs.Texts.{super_status, inspected_line}
 use Rattle.wb_tool.specs.Serve.{ServeAccount}
 use Rattle.wb_tool.specs.Inspect.{InspectEnds, InspectAccount}
 use Rattle.wb_tool.specs.Slot.{SlotAccount}
+use Rattle.wb_tool.specs.Recover.{RecoverAccount}
 use Rattle.wb_tool.specs.Format.{FormatAccount}
 use Rattle.wb_tool.specs.declared.command.Numbers.{Numbers}
 use Rattle.wb_tool.specs.declared.command.Command.{Command}
-use Rattle.wb_tool.specs.declared.command.Command.TheVariants.{Format, Serve, Inspect, InspectSlot}
-use Rattle.wb_tool.specs.Commands.{SpellNumbers, IsServe, IsInspect, IsInspectSlot, IsFormat, IsForm}
+use Rattle.wb_tool.specs.declared.command.Command.TheVariants.{Format, Serve, Recover, Inspect, InspectSlot}
+use Rattle.wb_tool.specs.Commands.{SpellNumbers, IsServe, IsRecover, IsInspect, IsInspectSlot, IsFormat, IsForm}
 use Rattle.wb_tool.specs.Account.{IsAccounted, UsageAccount}
 use Rattle.std.proofs.lemmas.Fmt.{decimal_injective}
 
@@ -127,6 +128,7 @@ super_inspected sink before after status found read only is counts super told = 
 abbrev pub AccountOf : Command → Run → Type 0
 AccountOf (Format numbers) run = FormatAccount numbers run
 AccountOf Serve run = ServeAccount run
+AccountOf Recover run = RecoverAccount run
 AccountOf Inspect run = InspectAccount run
 AccountOf (InspectSlot slot) run = SlotAccount slot run
 
@@ -148,6 +150,21 @@ inspect_not_slot slot words inspect other = let same = sym inspect.are ∙ other
 
 slot_not_format : (slot : ℕ) (numbers : Numbers) (words : List (List ℕ)) → IsInspectSlot slot words → IsFormat numbers words → ⊥
 slot_not_format slot numbers words other format = let same = sym other.are ∙ format.are in cc
+
+recover_not_serve : (words : List (List ℕ)) → IsRecover words → IsServe words → ⊥
+recover_not_serve words recover serve = let same = sym recover.are ∙ serve.are in cc
+
+recover_not_inspect : (words : List (List ℕ)) → IsRecover words → IsInspect words → ⊥
+recover_not_inspect words recover inspect =
+    let first : List (List ℕ) → ℕ = λ ws. slice_index_or (slice_index_or ws 0 []) 0 0 in
+    let same : 114 ≡ 105 = ap first (sym recover.are ∙ inspect.are) in
+    omega (arith, same)
+
+recover_not_slot : (slot : ℕ) (words : List (List ℕ)) → IsRecover words → IsInspectSlot slot words → ⊥
+recover_not_slot slot words recover other = let same = sym recover.are ∙ other.are in cc
+
+recover_not_format : (numbers : Numbers) (words : List (List ℕ)) → IsRecover words → IsFormat numbers words → ⊥
+recover_not_format numbers words recover format = let same = sym recover.are ∙ format.are in cc
 
 same_slot : (words : List (List ℕ)) (slot other : ℕ) → IsInspectSlot slot words → IsInspectSlot other words → slot ≡ other
 same_slot words slot other first second =
@@ -173,6 +190,7 @@ pub accounted : (command : Command) (words : List (List ℕ)) (run : Run) → Is
 accounted (Format numbers) words run form account = record {
   usage = λ none. absurd (none (Format numbers) form);
   serve = λ other. absurd (serve_not_format numbers words other form);
+  recover = λ other. absurd (recover_not_format numbers words other form);
   format = λ others other. subst (λ n. FormatAccount n run) (same_numbers words numbers others form other) account;
   inspect = λ other. absurd (inspect_not_format numbers words other form);
   slot = λ slot other. absurd (slot_not_format slot numbers words other form);
@@ -180,13 +198,23 @@ accounted (Format numbers) words run form account = record {
 accounted Serve words run form account = record {
   usage = λ none. absurd (none Serve form);
   serve = λ _. account;
+  recover = λ other. absurd (recover_not_serve words other form);
   format = λ numbers other. absurd (serve_not_format numbers words form other);
   inspect = λ other. absurd (not_both words form other);
   slot = λ slot other. absurd (serve_not_slot slot words form other);
 }
+accounted Recover words run form account = record {
+  usage = λ none. absurd (none Recover form);
+  serve = λ other. absurd (recover_not_serve words form other);
+  recover = λ _. account;
+  format = λ numbers other. absurd (recover_not_format numbers words form other);
+  inspect = λ other. absurd (recover_not_inspect words form other);
+  slot = λ slot other. absurd (recover_not_slot slot words form other);
+}
 accounted Inspect words run form account = record {
   usage = λ none. absurd (none Inspect form);
   serve = λ other. absurd (not_both words other form);
+  recover = λ other. absurd (recover_not_inspect words other form);
   format = λ numbers other. absurd (inspect_not_format numbers words form other);
   inspect = λ _. account;
   slot = λ slot other. absurd (inspect_not_slot slot words form other);
@@ -194,6 +222,7 @@ accounted Inspect words run form account = record {
 accounted (InspectSlot number) words run form account = record {
   usage = λ none. absurd (none (InspectSlot number) form);
   serve = λ other. absurd (serve_not_slot number words other form);
+  recover = λ other. absurd (recover_not_slot number words other form);
   format = λ numbers other. absurd (slot_not_format number numbers words form other);
   inspect = λ other. absurd (inspect_not_slot number words other form);
   slot = λ slot other. subst (λ (n : ℕ). SlotAccount n run) (same_slot words number slot form other) account;
@@ -203,6 +232,7 @@ pub usage_accounted : (words : List (List ℕ)) (run : Run) → ((command : Comm
 usage_accounted words run none account = record {
   usage = λ _. account;
   serve = λ form. absurd (none Serve form);
+  recover = λ form. absurd (none Recover form);
   format = λ numbers form. absurd (none (Format numbers) form);
   inspect = λ form. absurd (none Inspect form);
   slot = λ slot form. absurd (none (InspectSlot slot) form);

@@ -18,7 +18,7 @@ use Rattle.wb_script.specs.Grammar.{IsScript, IsTheScript, IsTheRefusal}
 use Rattle.wb_script.specs.declared.refusal.Cause.{Cause}
 use Rattle.wb_tool.specs.declared.command.Numbers.{Numbers}
 use Rattle.wb_tool.proofs.Formatted.{asked_one}
-use Rattle.wb_tool.specs.Run.{Lent, Run, HasFailed, EndsTelling, script_bytes}
+use Rattle.wb_tool.specs.Run.{Lent, Run, HasFailed, BackingHasFailed, EndsTelling, script_bytes}
 use Rattle.wb_tool.specs.Run as run
 use Rattle.wb_tool.specs.Texts.{super_status}
 use Rattle.wb_tool.specs.Opening.{EndsByLog, EndsByIds, EndsByBacking}
@@ -28,10 +28,13 @@ use Rattle.wb_tool.specs.Served.{Served}
 use Rattle.wb_tool.specs.Stages.{EndsReading}
 use Rattle.wb_script.specs.Output.{session_text}
 use Rattle.wb_script.specs.declared.transcript.Line.{Line}
-use Rattle.wb_replay.specs.Stopping.{IsFirstStray}
+use Rattle.wb_replay.specs.Stopping.{IsFirstStray, RefusesRecovery}
+use Rattle.wb_replay.specs.declared.recovering.RecoverStop.{RecoverStop}
+use Rattle.wb_replay.specs.declared.recovering.RecoverStop.TheVariants as cause
 use Rattle.wb_engine.specs.Opening.{recovered_to}
 use Rattle.wb_serve.specs.Session.{Devices, Report, IsSession}
 use Rattle.wb_tool.specs.Inspect.{InspectAccount}
+use Rattle.wb_tool.specs.Recover.{RecoverAccount, stopped_status, recovered_line}
 use Rattle.wb_tool.specs.Slot.{SlotAccount}
 use Rattle.wb_tool.specs.Format.{FormatAccount, Asks}
 use Rattle.wb_tool.specs.Account.{IsAccounted, IsComplete, TellsFormatted, LeavesIds, IsScripted, NoLogFault, NoFault, Succeeds}
@@ -134,21 +137,23 @@ not_changed s g image bytes script found ready good super fewer =
     omega (arith, same, good.sectors_are, fewer)
 
 -- no slot of it is refused
-not_stray : (s : State) (g : Geometry) (image : Image) (found : Super) (slot id : ℕ) → IsReady s g image → IsSuper s found → IsFirstStray found.geometry (recovered_to found) s slot id → ⊥
-not_stray s g image found slot id ready super (below, above, first) =
-    let geometry : found.geometry ≡ g = same_geometry s image g found ready.told ready.text super in
+not_stray : (s : State) (g : Geometry) (image : Image) (found : Super) (slot id : ℕ) → s.content ≡ Some image → SuperText image g 1 → IsTidy g image → IsSuper s found
+    → IsFirstStray found.geometry (recovered_to found) s slot id → ⊥
+not_stray s g image found slot id told text tidy super (below, above, first) =
+    let geometry : found.geometry ≡ g = same_geometry s image g found told text super in
+    let number : record_of image ≡ found.recorded = subst (λ (content : Option Image). IfSome content (λ x. record_of x ≡ found.recorded)) told super.number in
     let here : header_id found.geometry image slot ≡ id =
-    (subst (λ (content : Option Image). IfSome content (λ x. (header_id found.geometry x slot ≡ id) × ((earlier : ℕ) → earlier < slot → header_id found.geometry x earlier ≤ recovered_to found))) ready.told first).0 in
+    (subst (λ (content : Option Image). IfSome content (λ x. (header_id found.geometry x slot ≡ id) × ((earlier : ℕ) → earlier < slot → header_id found.geometry x earlier ≤ recovered_to found))) told first).0 in
     let slots = ap (λ (h : Geometry). h.slots) geometry in
     let inside : slot < g.slots = subst (λ (h : Geometry). slot < h.slots) geometry below in
     let same : header_id g image slot ≡ id = subst (λ (h : Geometry). header_id h image slot ≡ id) geometry here in
-    omega (arith, same, ready.tidy slot inside, same_record s g image found ready super, above, slots)
+    omega (arith, same, tidy slot inside, number, above, slots)
 
 -- so nothing but a fault stops it as the cache is opened
 not_stopped : (r : Run) (g : Geometry) (image : Image) (bytes : List ℕ) (script : ScriptContent) → NoFault r → ServeAccount r → IsReady r.before.log g image → IsScript g.backing_sectors bytes script
     → IsStopped script.sectors r → ⊥
 not_stopped r g image bytes script fine account ready good (none, inl stray) =
-    not_stray r.before.log g image stray.stopped.found stray.slot stray.id ready stray.stopped.went.may.super stray.stopped.refused
+    not_stray r.before.log g image stray.stopped.found stray.slot stray.id ready.told ready.text ready.tidy stray.stopped.went.may.super stray.stopped.refused
 not_stopped r g image bytes script fine account ready good (none, inr (inl failed)) = not_at_6 r account fine failed.ended
 not_stopped r g image bytes script fine account ready good (none, inr (inr (inl failed))) = not_at_7 r account fine failed.ended
 not_stopped r g image bytes script fine account ready good (none, inr (inr (inr change))) =
@@ -235,9 +240,36 @@ slot_complete slot r device account fine g formatted below =
       ]
     ]
 
+-- a recovery stops only where something failed
+stopped_well : (r : Run) (g : Geometry) (formatted : TellsFormatted r g) (why : RecoverStop) → IsDevice r.before.log → RecoverAccount r → NoLogFault r → (BackingHasFailed r → ⊥)
+    → IsTidy g formatted.image → g.backing_sectors ≤ r.before.backing.sectors
+    → RefusesRecovery r.before.log r.before.backing.sectors why → r.status ≡ stopped_status why → Succeeds r
+stopped_well r g formatted (cause.Super refused) device account fine backing tidy room why ended =
+    absurd (fine.log (account.ends.log_faults.failed (ended ∙ ap super_status (not_refused r.before.log formatted.image g device formatted.told formatted.text formatted.bounded refused why))))
+stopped_well r g formatted (cause.Backing needs has) device account fine backing tidy room (found, super, needs_are, has_is, few) ended =
+    let same = ap (λ (h : Geometry). h.backing_sectors) (same_geometry r.before.log formatted.image g found formatted.told formatted.text super) in
+    absurd (omega (arith, needs_are, has_is, few, same, room))
+stopped_well r g formatted cause.Memory device account fine backing tidy room why ended = inr ended
+stopped_well r g formatted (cause.Stray slot id) device account fine backing tidy room (found, may, stray) ended =
+    absurd (not_stray r.before.log g formatted.image found slot id formatted.told formatted.text tidy may.super stray)
+stopped_well r g formatted cause.LogFault device account fine backing tidy room why ended = absurd (fine.log (account.ends.log_faults.failed ended))
+stopped_well r g formatted cause.BackingFault device account fine backing tidy room why ended = absurd (backing (account.ends.backing_faults.failed ended))
+
+recover_complete : (r : Run) → IsDevice r.before.log → RecoverAccount r → NoLogFault r → (BackingHasFailed r → ⊥) → (g : Geometry) → (formatted : TellsFormatted r g) → IsTidy g formatted.image
+    → g.backing_sectors ≤ r.before.backing.sectors → Succeeds r
+recover_complete r device account fine backing g formatted tidy room =
+    elim account.ends.ends [
+      | inl one ↦ inr one
+      | inr rest ↦ elim rest [
+        | inl stopped ↦ stopped_well r g formatted stopped.cause device account fine backing tidy room stopped.why stopped.ended
+        | inr recovered ↦ told_well r (recovered_line recovered.recovery) fine recovered.told
+      ]
+    ]
+
 pub complete : (words : List (List ℕ)) (r : Run) → IsDevice r.before.log → IsAccounted words r → IsComplete words r
 complete words r device account = record {
   serve = λ form. serve_complete r device (account.serve form);
+  recover = λ form. recover_complete r device (account.recover form);
   format = λ numbers form. format_complete numbers r (account.format numbers form);
   inspect = λ form. inspect_complete r device (account.inspect form);
   slot = λ slot form. slot_complete slot r device (account.slot slot form);

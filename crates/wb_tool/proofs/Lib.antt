@@ -14,3 +14,4 @@ pub mod Completeness
 pub mod Formatted
 pub mod SlotLines
 pub mod SlotEnds
+pub mod Recoverings

@@ -20,3 +20,8 @@ pub refused_shape : (slot id cause : List ℕ)
     → codes "slot " ++ (slot ++ (codes " id " ++ (id ++ (codes " refused " ++ (cause ++ newline)))))
     ≡ (codes "slot " ++ slot) ++ codes " id " ++ id ++ codes " refused " ++ cause ++ newline
 refused_shape slot id cause = simp append_assoc refl
+
+pub recovered_shape : (count from recorded cause : List ℕ)
+    → codes "recovered " ++ (count ++ (codes " segments from " ++ (from ++ (codes " record " ++ (recorded ++ (codes " stopped " ++ (cause ++ newline)))))))
+    ≡ codes "recovered " ++ count ++ codes " segments from " ++ from ++ codes " record " ++ recorded ++ codes " stopped " ++ cause ++ newline
+recovered_shape count from recorded cause = simp append_assoc refl

@@ -23,7 +23,7 @@ use Rattle.wb_tool.specs.Serve.{IsUnbegun, IsLeftBy}
 use Rattle.wb_tool.specs.Stages.{Leaves, EndsServing, EndsUnserved}
 use Rattle.wb_tool.proofs.Sessions.{counts_same}
 
-super_not_7 : (cause : SuperRefused) → super_status cause ≢ 7
+pub super_not_7 : (cause : SuperRefused) → super_status cause ≢ 7
 super_not_7 (refused.Small needs has) seven = absurd (omega arith)
 super_not_7 refused.Fault seven = absurd (omega arith)
 super_not_7 refused.Magic seven = absurd (omega arith)
@@ -37,7 +37,7 @@ super_at_7 status cause P (inl one) some seven = some one
 super_at_7 status cause P (inr (ended, told)) some seven = super_not_7 cause (sym ended ∙ seven)
 
 -- the superblock's cause tells of a fault by its status alone
-super_at_6 : (cause : SuperRefused) → super_status cause ≡ 6 → cause ≡ refused.Fault
+pub super_at_6 : (cause : SuperRefused) → super_status cause ≡ 6 → cause ≡ refused.Fault
 super_at_6 (refused.Small needs has) six = absurd (omega arith)
 super_at_6 refused.Fault six = refl
 super_at_6 refused.Magic six = absurd (omega arith)

@@ -11,13 +11,14 @@ use Rattle.wb_script.specs.Content.{ScriptContent}
 use Rattle.wb_script.specs.Grammar.{IsScript}
 use Rattle.wb_tool.specs.declared.command.Command.{Command}
 use Rattle.wb_tool.specs.declared.command.Numbers.{Numbers}
-use Rattle.wb_tool.specs.Commands.{IsForm, IsServe, IsInspect, IsInspectSlot, IsFormat}
+use Rattle.wb_tool.specs.Commands.{IsForm, IsServe, IsRecover, IsInspect, IsInspectSlot, IsFormat}
 use Rattle.wb_tool.specs.Run.{Run, HasFailed, IsUntouched, LogHasFailed, BackingHasFailed, NoSession, BackingIsUncalled, Took, script_bytes}
 use Rattle.wb_tool.specs.Texts.{usage_line}
 use Rattle.wb_tool.specs.Serve.{ServeAccount}
 use Rattle.wb_tool.specs.Format.{FormatAccount, Asks}
 use Rattle.wb_tool.specs.Inspect.{InspectAccount}
 use Rattle.wb_tool.specs.Slot.{SlotAccount}
+use Rattle.wb_tool.specs.Recover.{RecoverAccount}
 
 -- the words are of no form
 pub record UsageAccount (run : Run) : Type 0 where
@@ -28,10 +29,11 @@ pub record UsageAccount (run : Run) : Type 0 where
   pub unread : IsUntouched run.source
   pub log : IsUncalled run.before.log run.after.log
 
--- what a run answers for: its words are of one of four forms, or of none
+-- what a run answers for: its words are of one of five forms, or of none
 pub record IsAccounted (words : List (List ℕ)) (run : Run) : Type 0 where
   pub usage : ((command : Command) → IsForm command words → ⊥) → UsageAccount run
   pub serve : IsServe words → ServeAccount run
+  pub recover : IsRecover words → RecoverAccount run
   pub format : (numbers : Numbers) → IsFormat numbers words → FormatAccount numbers run
   pub inspect : IsInspect words → InspectAccount run
   pub slot : (slot : ℕ) → IsInspectSlot slot words → SlotAccount slot run
@@ -73,6 +75,8 @@ Succeeds run = (run.status ≡ 0) ⊎ (run.status ≡ 1)
 pub record IsComplete (words : List (List ℕ)) (run : Run) : Type 0 where
   pub serve : IsServe words → NoFault run → (g : Geometry) → (formatted : TellsFormatted run g) → IsTidy g formatted.image → LeavesIds g formatted.image
       → g.backing_sectors ≤ run.before.backing.sectors → IsScripted run g → Succeeds run
+  pub recover : IsRecover words → NoLogFault run → (BackingHasFailed run → ⊥) → (g : Geometry) → (formatted : TellsFormatted run g) → IsTidy g formatted.image
+      → g.backing_sectors ≤ run.before.backing.sectors → Succeeds run
   pub format : (numbers : Numbers) → IsFormat numbers words → NoLogFault run → 8 ≤ run.before.backing.sectors
       → (g : Geometry) → Asks numbers run.before.backing.sectors g → log_sectors g ≤ run.before.log.sectors → Succeeds run
   pub inspect : IsInspect words → NoLogFault run → (g : Geometry) → TellsFormatted run g → Succeeds run

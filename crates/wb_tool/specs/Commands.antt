@@ -5,7 +5,7 @@ use Rattle.std.specs.Fmt.{decimal}
 use Rattle.wb_geometry.specs.Geometry.{IsOrder, IsSlots, IsRam}
 use Rattle.wb_tool.specs.declared.command.Numbers.{Numbers}
 use Rattle.wb_tool.specs.declared.command.Command.{Command}
-use Rattle.wb_tool.specs.declared.command.Command.TheVariants.{Format, Serve, Inspect, InspectSlot}
+use Rattle.wb_tool.specs.declared.command.Command.TheVariants.{Format, Serve, Recover, Inspect, InspectSlot}
 
 -- three words spell these numbers, which are in their ranges
 pub record SpellNumbers (order slots ram : List ℕ) (numbers : Numbers) : Type 0 where
@@ -21,6 +21,12 @@ pub record IsServe (words : List (List ℕ)) : Type 0 where
   pub log : List ℕ
   pub backing : List ℕ
   pub are : words ≡ codes "serve" ∷ log ∷ backing ∷ []
+
+-- `recover LOG BACKING`
+pub record IsRecover (words : List (List ℕ)) : Type 0 where
+  pub log : List ℕ
+  pub backing : List ℕ
+  pub are : words ≡ codes "recover" ∷ log ∷ backing ∷ []
 
 -- `inspect LOG BACKING`
 pub record IsInspect (words : List (List ℕ)) : Type 0 where
@@ -51,5 +57,6 @@ pub record IsFormat (numbers : Numbers) (words : List (List ℕ)) : Type 0 where
 abbrev pub IsForm : Command → List (List ℕ) → Type 0
 IsForm (Format numbers) words = IsFormat numbers words
 IsForm Serve words = IsServe words
+IsForm Recover words = IsRecover words
 IsForm Inspect words = IsInspect words
 IsForm (InspectSlot slot) words = IsInspectSlot slot words

@@ -10,4 +10,5 @@ pub mod Format
 pub mod Inspect
 pub mod SlotTexts
 pub mod Slot
+pub mod Recover
 pub mod Account

@@ -24,6 +24,8 @@ pub enum Command {
     Format(Numbers),
     /// Serves a script.
     Serve,
+    /// Puts what the log has to the backing device.
+    Recover,
     /// Tells the superblock.
     Inspect,
     /// Tells what is in a slot, counted from 0.
@@ -40,6 +42,7 @@ pub fn command_of(words: &[String]) -> Option<Command>
     match words.len() {
         3 => match words[0].as_str() {
             "serve" => Some(Command::Serve),
+            "recover" => Some(Command::Recover),
             "inspect" => Some(Command::Inspect),
             _ => None,
         },

@@ -7,6 +7,7 @@ mod formatting;
 mod inspecting;
 mod opening;
 mod reading;
+mod recovering;
 mod run;
 mod serving;
 mod slots;

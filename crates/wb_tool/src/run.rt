@@ -7,6 +7,7 @@ ghost use Rattle.wb_tool.specs.Account.{IsAccounted, IsComplete};
 use crate::command::{Command, command_of};
 use crate::formatting::format_log;
 use crate::inspecting::inspect_log;
+use crate::recovering::recover_log;
 use crate::serving::serve;
 use crate::slots::inspect_slot;
 use crate::status;
@@ -49,9 +50,10 @@ impl<L: Device, B: Device> Outcome<L, B> {
 /// statuses). It returns for every source, sink and device.
 ///
 /// `serve LOG BACKING` reads the superblock of the log, and the script from the source, and serves it over a cache of both
-/// devices: the answers go to the sink, and at the end the backing device holds what the script wrote. `format LOG BACKING
-/// ORDER SLOTS RAM` makes an empty log for the whole blocks of the backing device, and `inspect LOG BACKING` tells the
-/// superblock and the record of one; with a number behind it, what is in that slot. Words of another form are refused.
+/// devices: the answers go to the sink, and at the end the backing device holds what the script wrote. `recover LOG BACKING`
+/// puts what the log has to the backing device, and tells what it did. `format LOG BACKING ORDER SLOTS RAM` makes an empty
+/// log for the whole blocks of the backing device, and `inspect LOG BACKING` tells the superblock and the record of one; with
+/// a number behind it, what is in that slot. Words of another form are refused.
 /// `serve` recovers both devices before its session; where none began, recovery may have been made, wholly or in part, and
 /// made again it comes to the same. At status 1, want of memory, nothing is said of the output; what `serve` then leaves of
 /// the devices, or a crash does, is what recovery or a session of the first of each client's requests leaves.
@@ -93,6 +95,7 @@ fn obey<S: Source, K: Sink, L: Device, B: Device>(
         result.status result.transcripts.items result.places) }
 {
     let mut log = log;
+    let mut backing = backing;
     match command_of(words) {
         None => {
             tell(sink, USAGE);
@@ -103,6 +106,10 @@ fn obey<S: Source, K: Sink, L: Device, B: Device>(
             Outcome::without_session(alloc, status, log, backing)
         }
         Some(Command::Serve) => serve(alloc, source, sink, log, backing),
+        Some(Command::Recover) => {
+            let status = recover_log(alloc, sink, &mut log, &mut backing);
+            Outcome::without_session(alloc, status, log, backing)
+        }
         Some(Command::InspectSlot(slot)) => {
             let status = inspect_slot(alloc, sink, &mut log, slot);
             Outcome::without_session(alloc, status, log, backing)

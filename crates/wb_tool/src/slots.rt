@@ -149,7 +149,7 @@ fn refused_slot_text(
 }
 
 /// Why a slot doesn't begin with the text of a segment.
-fn cause_text(alloc: Global, refused: Refused) -> Result<String, AllocError>
+pub fn cause_text(alloc: Global, refused: Refused) -> Result<String, AllocError>
     ensures { IfOk result (λ text. string_bytes text ≡ segment_cause refused) }
 {
     match refused {

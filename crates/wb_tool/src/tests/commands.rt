@@ -10,7 +10,7 @@ const GOOD: &str = "clients 1\n0 w 0 1 aa\n0 r 0 1\n";
 const BAD: &str = "clients 1\n0 w 64 1 aa\n";
 
 // The words, the script, the status, what is printed, the lines of the transcript, the writes, and the record.
-const COMMANDS: [(&str, &str, u8, &str, usize, &[(usize, u8)], u64); 8] = [
+const COMMANDS: [(&str, &str, u8, &str, usize, &[(usize, u8)], u64); 9] = [
     (
         "format LOG BACKING 4 6 3",
         GOOD,
@@ -48,6 +48,15 @@ const COMMANDS: [(&str, &str, u8, &str, usize, &[(usize, u8)], u64); 8] = [
         5,
     ),
     // no session begins, and there is no transcript
+    (
+        "recover LOG BACKING",
+        GOOD,
+        0,
+        "recovered 0 segments from 1 record 4 stopped id 0\n",
+        0,
+        &[],
+        4,
+    ),
     ("serve LOG", GOOD, 2, "wblog: usage\n", 0, &[], 0),
     (
         "inspect LOG BACKING 4",

@@ -8,6 +8,11 @@ returns-in-serve c =
     let words = three_words string_bytes c.args.words.now c.index-words-0.result _ c.in-3.is c.index-words-0.is (sym c.as_str.ensures.value ∙ c.in-serve.is) in
     record { log = words.second; backing = words.third; are = words.are }
 
+pub returns-in-recover : goal.returns-in-recover
+returns-in-recover c =
+    let words = three_words string_bytes c.args.words.now c.index-words-0.result _ c.in-3.is c.index-words-0.is (sym c.as_str.ensures.value ∙ c.in-recover.is) in
+    record { log = words.second; backing = words.third; are = words.are }
+
 pub returns-in-inspect : goal.returns-in-inspect
 returns-in-inspect c =
     let words = three_words string_bytes c.args.words.now c.index-words-0.result _ c.in-3.is c.index-words-0.is (sym c.as_str.ensures.value ∙ c.in-inspect.is) in

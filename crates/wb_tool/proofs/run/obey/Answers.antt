@@ -2,7 +2,7 @@ use Rattle.std.proofs.Common.{map, refl, subst}
 use Rattle.std.specs.String.{string_bytes}
 use Rattle.wb_tool.specs.Commands.{IsForm}
 use Rattle.wb_geometry.proofs.Moments.{uncalled}
-use Rattle.wb_tool.specs.declared.command.Command.TheVariants.{Format, InspectSlot}
+use Rattle.wb_tool.specs.declared.command.Command.TheVariants.{Format, Recover, InspectSlot}
 use Rattle.wb_tool.proofs.Accounts.{accounted, usage_accounted, untouched}
 use Rattle.wb_tool.proofs.Formatted.{format_ends}
 use Rattle.wb_tool.proofs.run.obey.Goals as goal
@@ -29,6 +29,16 @@ returns-in-Some-Format g c =
       backing = uncalled _;
       unread = untouched _ _;
       ends = format_ends _ _ _ _ _ _ _ _ c.sectors.ensures refl c.format_log-status.ensures;
+    }))
+
+pub returns-in-Some-Recover : goal.returns-in-Some-Recover
+returns-in-Some-Recover g c =
+    let ended = c.without_session-in-Some-Recover.ensures in
+    rw (ended.log, ended.backing, ended.status, ended.transcripts, ended.places)
+    (accounted Recover _ _ (subst (λ command. IsForm command (map string_bytes c.args.words.now)) c.in-Some-Recover.field-0-is c.in-Some-Recover.ensures) (record {
+      no_session = record { transcripts = refl; places = refl };
+      unread = untouched _ _;
+      ends = c.recover_log-status.ensures;
     }))
 
 pub returns-in-Some-InspectSlot : goal.returns-in-Some-InspectSlot
