@@ -109,7 +109,28 @@ module _ {L B : Type 0} {of_log : L → State} {of_backing : B → State} where
 
 -- ---- what failed
 
-none_some : (d : Option Which) (which : Which) → d ≡ None → d ≡ Some which → ⊥
+module _ {L B : Type 0} {of_log : L → State} {of_backing : B → State} where
+  -- a turn that failed leaves the engine down by the device that did
+  pub down_by : (old new : EngineContent L B) (r : Result Turn Which) (which : Which) → r ≡ Err which
+      → IsTurn of_log of_backing old new r → new.down ≡ Some which
+  down_by old new (Ok x) which is did = absurd (cc)
+  down_by old new (Err other) which is (inl did) = let same : other ≡ which = cc in did.1.failed.2 ∙ ap (λ (w : Which). Some w) (sym did.1.failed.0 ∙ same)
+  down_by old new (Err other) which is (inr (inl did)) = let same : other ≡ which = cc in did.2.failed.2 ∙ ap (λ (w : Which). Some w) (sym did.2.failed.0 ∙ same)
+  down_by old new (Err other) which is (inr (inr (inl did))) = let same : other ≡ which = cc in did.3.failed.1 ∙ ap (λ (w : Which). Some w) same
+  down_by old new (Err other) which is (inr (inr (inr (inl did)))) = let same : other ≡ which = cc in did.4.failed.2 ∙ ap (λ (w : Which). Some w) (sym did.4.failed.0 ∙ same)
+  down_by old new (Err other) which is (inr (inr (inr (inr did)))) = let idle : Err other ≡ Ok turn.Idle = did.4 in absurd (cc)
+
+  -- and one that answered leaves it up
+  pub still_up : (old new : EngineContent L B) (r : Result Turn Which) (t : Turn) → old.down ≡ None → r ≡ Ok t
+      → IsTurn of_log of_backing old new r → new.down ≡ None
+  still_up old new (Err other) t up is did = absurd (cc)
+  still_up old new (Ok x) t up is (inl did) = did.1.ok.1
+  still_up old new (Ok x) t up is (inr (inl did)) = did.2.ok.1
+  still_up old new (Ok x) t up is (inr (inr (inl did))) = did.3.ok.1
+  still_up old new (Ok x) t up is (inr (inr (inr (inl did)))) = did.4.ok.1
+  still_up old new (Ok x) t up is (inr (inr (inr (inr did)))) = ap (λ (e : EngineContent L B). e.down) did.5 ∙ up
+
+pub none_some : (d : Option Which) (which : Which) → d ≡ None → d ≡ Some which → ⊥
 none_some d which none some = let both : None ≡ Some which = sym none ∙ some in cc
 
 module _ {L B : Type 0} (of_log : L → State) (of_backing : B → State) where

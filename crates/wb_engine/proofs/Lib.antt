@@ -19,6 +19,7 @@ pub mod Recordings
 pub mod Records
 pub mod SectorReads
 pub mod Standings
+pub mod Settled
 pub mod Steps
 pub mod Syncing
 pub mod Turns

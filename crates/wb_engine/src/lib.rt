@@ -8,6 +8,7 @@ mod closing;
 mod engine;
 mod opening;
 mod reading;
+mod settling;
 mod stepping;
 mod turning;
 

@@ -8,6 +8,7 @@ mod faults;
 mod listed;
 mod opening;
 mod recovered;
+mod settling;
 mod slots;
 
 use crate::{Engine, Turn};

@@ -13,7 +13,7 @@ use Rattle.wb_engine.specs.Content.{EngineContent, IsEngine, limit_of}
 use Rattle.wb_engine.specs.Stepping.{MayBack, LogsNext, SyncsLog, WritesBack, PutsRecord, Moves, IsTurn, Says}
 use Rattle.wb_engine.specs.declared.turning.Turn.{Turn}
 use Rattle.wb_engine.specs.declared.turning.Turn.TheVariants as turn
-use Rattle.wb_engine.proofs.Drained.{turn_causes}
+use Rattle.wb_engine.proofs.Drained.{turn_causes, down_by}
 use Rattle.wb_serve.specs.Playing.{HasMoved, HasRoom, AreSpent}
 use Rattle.wb_serve.proofs.Moves.{moved_none, moved_then, moved_turn}
 
@@ -73,17 +73,7 @@ module _ {L B : Type 0} {of_log : L → State} {of_backing : B → State} where
       let e : Numbers = old.numbers in
       did.0 (waits, omega (arith, not_less e.stable e.logged did.1, not_less e.back e.stable did.2, not_less e.recorded e.back did.3, old.geometry.slots_fit.0))
 
-  -- a turn that failed leaves the engine down by the device that did
-  pub down_by : (old new : EngineContent L B) (r : Result Turn Which) (which : Which) → r ≡ Err which
-      → IsTurn of_log of_backing old new r → new.down ≡ Some which
-  down_by old new (Ok x) which is did = absurd (cc)
-  down_by old new (Err other) which is (inl did) = let same : other ≡ which = cc in did.1.failed.2 ∙ ap (λ (w : Which). Some w) (sym did.1.failed.0 ∙ same)
-  down_by old new (Err other) which is (inr (inl did)) = let same : other ≡ which = cc in did.2.failed.2 ∙ ap (λ (w : Which). Some w) (sym did.2.failed.0 ∙ same)
-  down_by old new (Err other) which is (inr (inr (inl did))) = let same : other ≡ which = cc in did.3.failed.1 ∙ ap (λ (w : Which). Some w) same
-  down_by old new (Err other) which is (inr (inr (inr (inl did)))) = let same : other ≡ which = cc in did.4.failed.2 ∙ ap (λ (w : Which). Some w) (sym did.4.failed.0 ∙ same)
-  down_by old new (Err other) which is (inr (inr (inr (inr did)))) = let idle : Err other ≡ Ok turn.Idle = did.4 in absurd (cc)
-
-  -- nor has it logged a segment
+  -- a turn that failed has logged no segment
   none_logged : (old new : EngineContent L B) (r : Result Turn Which) (which : Which) → r ≡ Err which
       → IsTurn of_log of_backing old new r → new.numbers.logged ≡ old.numbers.logged
   none_logged old new (Ok x) which is did = absurd (cc)

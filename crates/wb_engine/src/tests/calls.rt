@@ -5,18 +5,18 @@ use std::alloc::Global;
 use std::test::Fail;
 use wb_device::{DeviceCall, ListingDevice, SteadyDevice};
 
-type Listed = ListingDevice<SteadyDevice>;
+pub(super) type Listed = ListingDevice<SteadyDevice>;
 
 /// A device that lists its calls.
-fn listed(alloc: Global, device: SteadyDevice) -> Result<Listed, Fail> {
+pub(super) fn listed(alloc: Global, device: SteadyDevice) -> Result<Listed, Fail> {
     Ok(ListingDevice::over(alloc, device, 64)?)
 }
 
 /// So many reads, writes and syncs.
-type Counts = (u64, u64, u64);
+pub(super) type Counts = (u64, u64, u64);
 
 /// How often the log and the backing device were called, since they were made.
-fn counts_of(log: &Listed, backing: &Listed) -> (Counts, Counts) {
+pub(super) fn counts_of(log: &Listed, backing: &Listed) -> (Counts, Counts) {
     let (log, backing) = (log.counts(), backing.counts());
     (
         (log.reads, log.writes, log.syncs),
@@ -25,7 +25,7 @@ fn counts_of(log: &Listed, backing: &Listed) -> (Counts, Counts) {
 }
 
 /// Whether both devices of an engine were called so often.
-fn was_called(engine: &Engine<Listed, Listed>, log: Counts, backing: Counts) -> bool {
+pub(super) fn was_called(engine: &Engine<Listed, Listed>, log: Counts, backing: Counts) -> bool {
     counts_of(&engine.log, &engine.backing) == (log, backing)
 }
 

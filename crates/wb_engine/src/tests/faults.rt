@@ -11,7 +11,7 @@ use wb_geometry::{Geometry, Which};
 use wb_super::format;
 
 /// Writes the third sectors of these blocks, for which there is room.
-fn write_all<L: Device, B: Device>(
+pub(super) fn write_all<L: Device, B: Device>(
     alloc: Global,
     engine: &mut Engine<L, B>,
     blocks: &[u8],

@@ -1,8 +1,6 @@
 -- The superblock, the memory, and then recovery.
-use Rattle.std.proofs.Common.{rules, ℕ, ◌≡◌, ◌*◌, ◌+◌, length, List, take, drop, ◌++◌, refl, sym, ap, ◌∙◌, subst, inr, arith}
-use Rattle.wb_geometry.specs.Layout.{slot_sectors}
-use Rattle.wb_engine.specs.Opening.{MayOpen, RefusesOpening, SaysLog}
-use Rattle.wb_engine.specs.declared.opening.OpenCause.{OpenCause}
+use Rattle.std.proofs.Common.{rules, ℕ, subst, inr}
+use Rattle.wb_engine.specs.Opening.{MayOpen}
 use Rattle.wb_engine.proofs.Openings.{buffer_size, goes_opened, recovered_opened, stopped_opened, log_counts, backing_counts}
 use Rattle.wb_engine.proofs.opening.prepare.Goals as goal
 
