@@ -1,0 +1,4 @@
+pub mod Sights
+pub mod Plays
+pub mod Belongs
+pub mod Passes

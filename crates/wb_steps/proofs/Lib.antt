@@ -1,0 +1,14 @@
+pub mod Lists
+pub mod Phases
+pub mod Fitting
+pub mod Cells
+pub mod Appends
+pub mod Fills
+pub mod Takes
+pub mod Numbers
+pub mod Copies
+pub mod Bounds
+pub mod Keeps
+pub mod Starts
+pub mod Ready
+pub mod Seats
