@@ -2,6 +2,7 @@
 //! is made again comes to the same.
 ghost use Rattle.std.specs.Prelude.{◌≡◌, ◌≤◌, IfOk, length};
 
+mod round;
 mod rows;
 mod stopped;
 

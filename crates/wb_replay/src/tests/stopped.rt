@@ -1,4 +1,5 @@
 //! Recoveries that are stopped, and made again.
+use super::round::{Round, session_backing, session_log};
 use super::{Image, NEW, TORN, backing_of, log_of};
 use crate::recover;
 use std::alloc::{AllocError, Global};
@@ -140,10 +141,12 @@ fn stop_each(
 }
 
 /// A device, whether calls fail from one on, and the sectors that a write stores before.
-const KINDS: [(bool, bool, u64); 4] = [
+const KINDS: [(bool, bool, u64); 6] = [
     (true, true, 0),
+    (true, false, 0),
     (true, false, 1),
     (false, true, 0),
+    (false, false, 0),
     (false, false, 1),
 ];
 
@@ -167,6 +170,23 @@ fn stop_all(
     Ok(())
 }
 
+/// Recovers images where a call fails.
+fn stop_images(
+    rt: &impl Abort,
+    alloc: Global,
+    log: &[u8],
+    backing: &[u8],
+    wanted: &[u8],
+    calls: (u64, u64),
+) -> Result<(), AllocError> {
+    let images = Images {
+        log,
+        backing,
+        wanted,
+    };
+    stop_all(rt, alloc, &images, calls)
+}
+
 /// Recovers a log where a call fails.
 fn stop_log(
     rt: &impl Abort,
@@ -178,12 +198,14 @@ fn stop_log(
     let log = log_of(alloc, image)?;
     let backing = backing_of(alloc, &[])?;
     let wanted = backing_of(alloc, put)?;
-    let images = Images {
-        log: log.as_slice(),
-        backing: backing.as_slice(),
-        wanted: wanted.as_slice(),
-    };
-    stop_all(rt, alloc, &images, calls)?;
+    stop_images(
+        rt,
+        alloc,
+        log.as_slice(),
+        backing.as_slice(),
+        wanted.as_slice(),
+        calls,
+    )?;
     Ok(())
 }
 
@@ -203,4 +225,60 @@ fn so_is_one_of_a_full_log(rt: HostRuntime) -> Result<(), Fail> {
         ..NEW
     };
     stop_log(&rt, rt.alloc(), &full, &[7, 8, 9, 10], (13, 6))
+}
+
+/// Recovers what a session leaves that goes round its log, where a call fails.
+fn stop_session(
+    rt: &impl Abort,
+    alloc: Global,
+    left: &Round,
+    calls: (u64, u64),
+) -> Result<(), Fail> {
+    let log = session_log(alloc, left)?;
+    let backing = session_backing(alloc, left.put)?;
+    let wanted = session_backing(alloc, left.last)?;
+    stop_images(
+        rt,
+        alloc,
+        log.as_slice(),
+        backing.as_slice(),
+        wanted.as_slice(),
+        calls,
+    )?;
+    Ok(())
+}
+
+// The log has two slots: one id less is read in each, and the chain comes to both of them.
+
+#[test]
+fn so_is_one_before_the_record_was_raised(rt: HostRuntime) -> Result<(), Fail> {
+    let left = Round {
+        recorded: 2,
+        first: 3,
+        last: 4,
+        put: 2,
+    };
+    stop_session(&rt, rt.alloc(), &left, (9, 4))
+}
+
+#[test]
+fn so_is_one_of_a_log_that_was_gone_round(rt: HostRuntime) -> Result<(), Fail> {
+    let left = Round {
+        recorded: 3,
+        first: 4,
+        last: 5,
+        put: 3,
+    };
+    stop_session(&rt, rt.alloc(), &left, (9, 4))
+}
+
+#[test]
+fn so_is_one_of_the_last_segment(rt: HostRuntime) -> Result<(), Fail> {
+    let left = Round {
+        recorded: 4,
+        first: 4,
+        last: 5,
+        put: 4,
+    };
+    stop_session(&rt, rt.alloc(), &left, (9, 3))
 }
