@@ -1,9 +1,10 @@
--- A read, sector by sector.
-use Rattle.std.proofs.Common.{ℕ, suc, zero, ◌≡◌, ◌+◌, ◌-◌, ◌*◌, ◌/◌, ◌%◌, ◌<◌, ◌≤◌, ◌&&◌, if◌then◌else◌, Bool, true, nat_le, List, [], ◌∷◌, ◌++◌, length, take, drop, Option, Some, inl, refl, sym, ap, ◌∙◌, subst, arith, length-append}
+-- A read, run by run.
+use Rattle.std.proofs.Common.{ℕ, suc, zero, ◌≡◌, ◌+◌, ◌-◌, ◌/◌, ◌%◌, ◌≤◌, ◌&&◌, if◌then◌else◌, Bool, true, nat_le, List, [], ◌∷◌, ◌++◌, length, take, drop, Option, Some, inl, refl, sym, ap, ◌∙◌, subst, arith, length-append, append-nil, append_assoc}
 use Rattle.std.specs.List.{range_with_len, filter}
 use Rattle.std.specs.Option.{IsSome}
 use Rattle.std.proofs.lemmas.Bool.{and_from, le-leb}
-use Rattle.std.proofs.lemmas.List.{length-drop, length-take-le}
+use Rattle.std.proofs.lemmas.List.{length-drop, length-take-le, take-take}
+use Rattle.std.proofs.Math.Seq.{take-append-add}
 use Rattle.std.proofs.lemmas.List.Elements.{filter-append}
 use Rattle.wb_geometry.specs.Image.{Image, sector, bytes_at}
 use Rattle.wb_geometry.specs.Device.{State, IsDevice, NothingPending, OnlyRead, CountsFaultsWhere, next_count}
@@ -22,6 +23,22 @@ use Rattle.wb_memory.specs.Memory.{MemoryContent}
 use Rattle.wb_engine.specs.Content.{EngineContent}
 use Rattle.wb_engine.specs.Standing.{Standing, Told, IsSynced, IsSameEngine}
 use Rattle.wb_engine.specs.Reading.{on_backing, in_log}
+
+-- ---- bytes
+
+-- those of so many sectors, and those of the sectors behind them
+bytes_at_run : (x : Image) (at count run : ℕ) → at + count + run ≤ length x → bytes_at x at (count + run) ≡ bytes_at x at count ++ bytes_at x (at + count) run
+bytes_at_run x at count zero inside = let same : count + 0 ≡ count = omega arith in ap (bytes_at x at) same ∙ sym (append-nil (bytes_at x at count))
+bytes_at_run x at count (suc run) inside =
+    let next : count + suc run ≡ count + run + 1 = omega arith in
+    let one : suc run ≡ run + 1 = omega arith in
+    let there : at + (count + run) ≡ at + count + run = omega arith in
+    ap (bytes_at x at) next
+    ∙ bytes_at_more x at (count + run) (omega (arith, inside))
+    ∙ ap (λ (b : List ℕ). b ++ sector x (at + (count + run))) (bytes_at_run x at count run (omega (arith, inside)))
+    ∙ append_assoc (bytes_at x at count) (bytes_at x (at + count) run) (sector x (at + (count + run)))
+    ∙ ap (λ (k : ℕ). bytes_at x at count ++ (bytes_at x (at + count) run ++ sector x k)) there
+    ∙ ap (λ (b : List ℕ). bytes_at x at count ++ b) (sym (bytes_at_more x (at + count) run (omega (arith, inside))) ∙ ap (bytes_at x (at + count)) (sym one))
 
 -- ---- how many of the sectors pass a test
 
@@ -74,20 +91,27 @@ log_read_one logged reads now lookup at spot named some upto is =
     let test : (nat_le 1 id && nat_le id logged) ≡ true = and_from (nat_le 1 id) (nat_le id logged) (le-leb 1 id (omega (arith, some, same))) (le-leb id logged (omega (arith, upto, same))) in
     omega (arith, is, many_one (λ s. nat_le 1 (spot_in lookup (s / 8) (s % 8)).id && nat_le (spot_in lookup (s / 8) (s % 8)).id logged) at test)
 
--- so many reads of the sectors up to one, and those of that one
-pub many_next : (test : ℕ → Bool) (at count before middle now : ℕ) → middle ≤ before + many test at count → now ≤ middle + many test (at + count) 1
-    → now ≤ before + many test at (count + 1)
-many_next test at count before middle now first next = omega (arith, first, next, many_more test at count)
+-- reads of the sectors up to one, and of that one, are no more than there are for it and some others behind them
+pub many_next : (test : ℕ → Bool) (at count run before middle now : ℕ) → 1 ≤ run → middle ≤ before + many test at count → now ≤ middle + many test (at + count) 1
+    → now ≤ before + many test at (count + run)
+many_next test at count run before middle now some first next = omega (arith, first, next, many_more test at count, many_le test at (count + 1) (count + run) (omega (arith, some)))
 
 -- ---- a piece of the bytes
 
-pub end_of_piece : (count : ℕ) (into piece : List ℕ) → 512 * count + 512 ≤ length into → length piece ≡ length (take (512 * count + 512 - 512 * count) (drop (512 * count) into))
-    → 512 * (count + 1) ≡ 512 * count + length piece
-end_of_piece count into piece room size =
-    let many : 512 * count + 512 - 512 * count ≡ 512 = omega arith in
-    let rest : 512 ≤ length (drop (512 * count) into) = omega (arith, length-drop (512 * count) into) in
-    let is : length piece ≡ 512 = size ∙ ap (λ (n : ℕ). length (take n (drop (512 * count) into))) many ∙ length-take-le 512 (drop (512 * count) into) rest in
-    omega (arith, is)
+-- a piece that is cut at the end of bytes
+pub rest_size : (a : ℕ) (into piece : List ℕ) → a ≤ length into → length piece ≡ length (take (length into - a) (drop a into)) → length piece ≡ length into - a
+rest_size a into piece fits size = size ∙ length-take-le (length into - a) (drop a into) (omega (arith, length-drop a into)) ∙ refl
+
+-- of bytes that have a piece behind their first the front up to some place in it
+pub front_of_piece : (a n m : ℕ) (into piece now : List ℕ) → a ≤ length into → n ≡ a + m → m ≤ length piece → take (a + length piece) now ≡ take a into ++ piece
+    → take n now ≡ take a into ++ take m piece
+front_of_piece a n m into piece now fits is below whole =
+    let first : length (take a into) ≡ a = length-take-le a into fits in
+    let all : n ≡ length (take a into) + m = omega (arith, is, first) in
+    sym (take-take n (a + length piece) now (omega (arith, is, below)))
+    ∙ ap (take n) whole
+    ∙ ap (λ (k : ℕ). take k (take a into ++ piece)) all
+    ∙ take-append-add (take a into) piece m
 
 -- ---- faults
 
@@ -193,52 +217,52 @@ module _ {L B : Type 0} {of_log : L → State} {of_backing : B → State} where
 
   -- how many reads the next one makes them at most
 
-  pub log_reads_next : {old mid : EngineContent L B} (now at count : ℕ) (bytes : List ℕ) → IsReadTo of_log of_backing old mid at count bytes
-      → now ≤ (of_log mid.log).reads + in_log mid.numbers.logged mid.memory.lookup (at + count) 1 → now ≤ (of_log old.log).reads + in_log old.numbers.logged old.memory.lookup at (count + 1)
-  log_reads_next {old} {mid} now at count bytes is few =
+  pub log_reads_next : {old mid : EngineContent L B} (now at count run : ℕ) (bytes : List ℕ) → 1 ≤ run → IsReadTo of_log of_backing old mid at count bytes
+      → now ≤ (of_log mid.log).reads + in_log mid.numbers.logged mid.memory.lookup (at + count) 1 → now ≤ (of_log old.log).reads + in_log old.numbers.logged old.memory.lookup at (count + run)
+  log_reads_next {old} {mid} now at count run bytes some is few =
       let reads : ℕ = (of_log mid.log).reads in
       let first : reads + in_log mid.numbers.logged mid.memory.lookup (at + count) 1 ≡ reads + in_log old.numbers.logged old.memory.lookup (at + count) 1 =
       ap (λ (n : Numbers). reads + in_log n.logged mid.memory.lookup (at + count) 1) is.same.numbers
       ∙ ap (λ (m : MemoryContent). reads + in_log old.numbers.logged m.lookup (at + count) 1) is.same.memory in
-      many_next _ at count (of_log old.log).reads reads now is.log_reads (subst (λ (n : ℕ). now ≤ n) first few)
+      many_next _ at count run (of_log old.log).reads reads now some is.log_reads (subst (λ (n : ℕ). now ≤ n) first few)
 
-  pub backing_reads_next : {old mid : EngineContent L B} (now at count : ℕ) (bytes : List ℕ) → IsReadTo of_log of_backing old mid at count bytes
-      → now ≤ (of_backing mid.backing).reads + on_backing mid.memory.lookup (at + count) 1 → now ≤ (of_backing old.backing).reads + on_backing old.memory.lookup at (count + 1)
-  backing_reads_next {old} {mid} now at count bytes is few =
+  pub backing_reads_next : {old mid : EngineContent L B} (now at count run : ℕ) (bytes : List ℕ) → 1 ≤ run → IsReadTo of_log of_backing old mid at count bytes
+      → now ≤ (of_backing mid.backing).reads + on_backing mid.memory.lookup (at + count) 1 → now ≤ (of_backing old.backing).reads + on_backing old.memory.lookup at (count + run)
+  backing_reads_next {old} {mid} now at count run bytes some is few =
       let reads : ℕ = (of_backing mid.backing).reads in
       let first : reads + on_backing mid.memory.lookup (at + count) 1 ≡ reads + on_backing old.memory.lookup (at + count) 1 =
       ap (λ (m : MemoryContent). reads + on_backing m.lookup (at + count) 1) is.same.memory in
-      many_next _ at count (of_backing old.backing).reads reads now is.backing_reads (subst (λ (n : ℕ). now ≤ n) first few)
+      many_next _ at count run (of_backing old.backing).reads reads now some is.backing_reads (subst (λ (n : ℕ). now ≤ n) first few)
 
-  -- the sector behind them
-  pub next_sector : {old mid : EngineContent L B} (at count : ℕ) (bytes piece : List ℕ) → IsReadTo of_log of_backing old mid at count bytes
-      → IsDevice (of_backing mid.backing) → at + count < (of_backing mid.backing).sectors
-      → ((base image : Image) (h : List HistoryEntry) → Told (of_backing mid.backing) image → Standing of_log of_backing mid base h → piece ≡ sector (after base h) (at + count))
-      → (base image : Image) (h : List HistoryEntry) → Told (of_backing old.backing) image → Standing of_log of_backing old base h → bytes ++ piece ≡ bytes_at (after base h) at (count + 1)
-  next_sector {old} {mid} at count bytes piece is device inside read base image h told stands =
+  -- the sectors behind them
+  next_run : {old mid : EngineContent L B} (at count run : ℕ) (bytes piece : List ℕ) → IsReadTo of_log of_backing old mid at count bytes
+      → IsDevice (of_backing mid.backing) → at + count + run ≤ (of_backing mid.backing).sectors
+      → ((base image : Image) (h : List HistoryEntry) → Told (of_backing mid.backing) image → Standing of_log of_backing mid base h → piece ≡ bytes_at (after base h) (at + count) run)
+      → (base image : Image) (h : List HistoryEntry) → Told (of_backing old.backing) image → Standing of_log of_backing old base h → bytes ++ piece ≡ bytes_at (after base h) at (count + run)
+  next_run {old} {mid} at count run bytes piece is device inside read base image h told stands =
       let now_told : Told (of_backing mid.backing) image = is.backing_read.content ∙ told in
       let now_stands : Standing of_log of_backing mid base h = standing_read old mid base h is.same is.log_read is.backing_read stands in
       let size : length image ≡ (of_backing mid.backing).sectors = (device.content image now_told).size in
       let same_size : length image ≡ length base = (stands.safe.on_backing.shown image (inl told)).size in
       ap (λ (b : List ℕ). b ++ piece) (is.bytes_are base image h told stands)
       ∙ ap (λ (b : List ℕ). bytes_at (after base h) at count ++ b) (read base image h now_told now_stands)
-      ∙ sym (bytes_at_more (after base h) at count (omega (arith, inside, size, same_size, length-after base h)))
+      ∙ sym (bytes_at_run (after base h) at count run (omega (arith, inside, size, same_size, length-after base h)))
 
-  pub read_more : {old mid new : EngineContent L B} (at count : ℕ) (bytes piece whole : List ℕ)
-      → IsReadTo of_log of_backing old mid at count bytes → IsDevice (of_backing mid.backing) → at + count < (of_backing mid.backing).sectors
-      → ((base image : Image) (h : List HistoryEntry) → Told (of_backing mid.backing) image → Standing of_log of_backing mid base h → piece ≡ sector (after base h) (at + count))
+  pub read_more : {old mid new : EngineContent L B} (at count run : ℕ) (bytes piece whole : List ℕ) → 1 ≤ run
+      → IsReadTo of_log of_backing old mid at count bytes → IsDevice (of_backing mid.backing) → at + count + run ≤ (of_backing mid.backing).sectors
+      → ((base image : Image) (h : List HistoryEntry) → Told (of_backing mid.backing) image → Standing of_log of_backing mid base h → piece ≡ bytes_at (after base h) (at + count) run)
       → IsSameEngine mid new → OnlyRead (of_log mid.log) (of_log new.log) → OnlyRead (of_backing mid.backing) (of_backing new.backing)
       → (of_log new.log).faults ≡ (of_log mid.log).faults → (of_backing new.backing).faults ≡ (of_backing mid.backing).faults
       → (of_log new.log).reads ≤ (of_log mid.log).reads + in_log mid.numbers.logged mid.memory.lookup (at + count) 1
       → (of_backing new.backing).reads ≤ (of_backing mid.backing).reads + on_backing mid.memory.lookup (at + count) 1
-      → whole ≡ bytes ++ piece → IsReadTo of_log of_backing old new at (count + 1) whole
-  read_more {old} {mid} {new} at count bytes piece whole is device inside read same log_only backing_only log_faults backing_faults log_reads backing_reads joined = record {
+      → whole ≡ bytes ++ piece → IsReadTo of_log of_backing old new at (count + run) whole
+  read_more {old} {mid} {new} at count run bytes piece whole some is device inside read same log_only backing_only log_faults backing_faults log_reads backing_reads joined = record {
     same = same_trans old mid new is.same same;
     log_read = reads_only is.log_read log_only;
     backing_read = reads_only is.backing_read backing_only;
     log_faults = log_faults ∙ is.log_faults;
     backing_faults = backing_faults ∙ is.backing_faults;
-    log_reads = log_reads_next _ at count bytes is log_reads;
-    backing_reads = backing_reads_next _ at count bytes is backing_reads;
-    bytes_are = λ base image h told stands. joined ∙ next_sector at count bytes piece is device inside read base image h told stands;
+    log_reads = log_reads_next _ at count run bytes some is log_reads;
+    backing_reads = backing_reads_next _ at count run bytes some is backing_reads;
+    bytes_are = λ base image h told stands. joined ∙ next_run at count run bytes piece is device inside read base image h told stands;
   }

@@ -8,6 +8,7 @@ mod faults;
 mod listed;
 mod opening;
 mod recovered;
+mod runs;
 mod settling;
 mod slots;
 
