@@ -1,7 +1,6 @@
 -- What an engine that was just opened stands for: the image of the backing device, and no history; and why none is opened.
-use Rattle.std.proofs.Common.{ℕ, ◌≡◌, ◌⊎◌, ◌+◌, ◌^◌, ◌≤◌, ◌<◌, List, [], ◌∷◌, ◌++◌, length, take, drop, Option, Some, None, Result, Err, inl, inr, refl, sym, ap, ◌∙◌, subst, arith}
+use Rattle.std.proofs.Common.{ℕ, ◌≡◌, ◌^◌, ◌≤◌, ◌<◌, List, [], ◌∷◌, ◌++◌, length, take, drop, Option, Some, None, Result, Err, inl, inr, refl, sym, ap, ◌∙◌, subst, arith}
 use Rattle.std.specs.Option.{IsSome, IfSome, is_some}
-use Rattle.std.specs.Result.{IfErr}
 use Rattle.std.proofs.lemmas.List.{length-append, length-drop, length-take-le}
 use Rattle.wb_geometry.specs.Image.{Image}
 use Rattle.wb_geometry.specs.Device.{State, IsDevice, OnlyRead, ContentPasses, NothingPending, IsSameDevice, CountsFaultsWhere}
@@ -15,7 +14,6 @@ use Rattle.wb_super.specs.Found.{IsSuper}
 use Rattle.wb_super.specs.Recording.{Records}
 use Rattle.wb_super.specs.Superblock.{header_id}
 use Rattle.wb_super.specs.declared.reading.Super.{Super}
-use Rattle.wb_super.specs.declared.reading.SuperRefused.TheVariants.{Fault}
 use Rattle.wb_header.specs.Segments.{Segment}
 use Rattle.wb_header.specs.Standing.{StandsFor}
 use Rattle.wb_header.proofs.Standings.{stands_none}
@@ -24,17 +22,16 @@ use Rattle.wb_crash.specs.Safety.{IsSafe, IsFresh}
 use Rattle.wb_crash.specs.declared.numbers.Numbers.{Numbers}
 use Rattle.wb_crash.proofs.Shown.{shown_content}
 use Rattle.wb_crash.proofs.Lines.{opened}
-use Rattle.wb_replay.specs.Replaying.{GoesInTurn, IsAllPut, MakesOf}
+use Rattle.wb_replay.specs.Replaying.{GoesInTurn, IsAllPut}
 use Rattle.wb_replay.specs.Stopping.{HasNoStray, RefusesSlots, StopsInTurn}
 use Rattle.wb_replay.specs.declared.replaying.ReplayStop.{ReplayStop}
 use Rattle.wb_replay.specs.declared.replaying.ReplayStop.TheVariants as stop
-use Rattle.wb_replay.proofs.Turns.{synced_by_reads, synced_then, number_of, text_of}
+use Rattle.wb_replay.proofs.Turns.{synced_by_reads, synced_then, text_of}
 use Rattle.wb_replay.proofs.Judged.{super_read, goes_judged}
 use Rattle.wb_replay.proofs.Leavings.{crash_of, contents_of}
-use Rattle.wb_memory.specs.Memory.{MemoryContent}
 use Rattle.wb_engine.specs.Content.{EngineContent}
-use Rattle.wb_engine.specs.Standing.{Standing, Told, IsSynced, line}
-use Rattle.wb_engine.specs.Opening.{MayOpen, Goes, HasRecovered, HasStopped, IsUnbegun, RefusesLog, RefusesOpening, SaysLog, IsOnly, IsOpened, IsReady, recovered_to, cause_of}
+use Rattle.wb_engine.specs.Standing.{Standing, Told, line}
+use Rattle.wb_engine.specs.Opening.{MayOpen, Goes, HasRecovered, HasStopped, RefusesLog, RefusesOpening, SaysLog, IsOnly, IsOpened, IsReady, recovered_to, cause_of}
 use Rattle.wb_engine.specs.declared.opening.OpenCause.{OpenCause}
 use Rattle.wb_engine.specs.declared.opening.OpenCause.TheVariants as cause
 use Rattle.wb_engine.proofs.Held.{AreHeld, held_push}
