@@ -69,14 +69,15 @@ pub record IsUnbegun (log new_log backing new_backing : State) : Type 0 where
   pub only_read : OnlyRead log new_log
   pub uncalled : IsUncalled backing new_backing
 
--- Why it isn't opened, before recovery is begun: the first of these causes that applies. Want of memory has none.
+-- Why it isn't opened, before recovery is begun: the first of these causes that applies. Where memory was wanting none of
+-- the others does.
 abbrev pub RefusesLog : (log : State) (has : ℕ) → OpenCause → Type 0
 RefusesLog log has (cause.Super refused) = Refuses log refused
 RefusesLog log has (cause.IdsSpent recorded) = (found : Super) × IsSuper log found × (found.recorded ≡ recorded)
     × (most_recorded found.geometry.slots < recorded)
 RefusesLog log has (cause.Backing needs found_has) = (found : Super) × IsSuper log found × (found.recorded ≤ most_recorded found.geometry.slots)
     × (needs ≡ found.geometry.backing_sectors) × (found_has ≡ has) × (has < needs)
-RefusesLog log has cause.Memory = Unit {0}
+RefusesLog log has cause.Memory = (found : Super) × MayOpen log has found
 RefusesLog log has cause.LogFault = ⊥
 RefusesLog log has cause.BackingFault = ⊥
 RefusesLog log has (cause.Stray slot id) = ⊥

@@ -1,5 +1,5 @@
 -- When a run succeeds.
-use Rattle.std.proofs.Common.{◌≡◌, ◌⊎◌, ◌<◌, ◌≤◌, ◌-◌, ◌*◌, ◌^◌, List, ℕ, Bool, true, ap, sym, subst, ◌∙◌, arith, inl, inr, Option, Some, IfSome}
+use Rattle.std.proofs.Common.{◌≡◌, ◌⊎◌, ◌<◌, ◌≤◌, ◌-◌, ◌*◌, ◌^◌, List, ℕ, true, ap, sym, subst, ◌∙◌, arith, inl, inr, Option, Some, IfSome}
 use Rattle.std.proofs.Math.Nat.{mul-le-mul_right}
 use Rattle.wb_geometry.specs.Image.{Image}
 use Rattle.wb_geometry.specs.Layout.{log_sectors}
@@ -27,7 +27,6 @@ use Rattle.wb_tool.specs.Serve.{HasIds, IsStopped, ServeAccount}
 use Rattle.wb_tool.specs.Served.{Served}
 use Rattle.wb_tool.specs.Stages.{EndsReading}
 use Rattle.wb_script.specs.Output.{session_text}
-use Rattle.wb_script.specs.declared.transcript.Line.{Line}
 use Rattle.wb_replay.specs.Stopping.{IsFirstStray, RefusesRecovery}
 use Rattle.wb_replay.specs.declared.recovering.RecoverStop.{RecoverStop}
 use Rattle.wb_replay.specs.declared.recovering.RecoverStop.TheVariants as cause

@@ -1,7 +1,6 @@
 -- A run of which the log was read before: what it answers for holds from the log's earlier state on.
 use Rattle.std.proofs.Common.{◌≡◌, ◌⊎◌, ◌≤◌, ℕ, inl, inr}
 use Rattle.wb_geometry.specs.Device.{State, OnlyRead}
-use Rattle.wb_geometry.specs.declared.which.Which.{Which}
 use Rattle.wb_super.specs.Found.{IsSuper}
 use Rattle.wb_super.specs.declared.reading.Super.{Super}
 use Rattle.wb_super.proofs.Superblocks.{reads_only}

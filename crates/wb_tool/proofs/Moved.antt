@@ -1,17 +1,15 @@
 -- What is said of a log holds of it before it was read.
-use Rattle.std.proofs.Common.{◌≡◌, ◌<◌, ◌≤◌, List, ℕ, Bool, subst, ◌∙◌, refl, Option, Some, None, IfSome}
+use Rattle.std.proofs.Common.{◌≡◌, ◌≤◌, ℕ, subst, ◌∙◌, refl, Option, Some, None, IfSome}
 use Rattle.wb_geometry.specs.Image.{Image}
 use Rattle.wb_geometry.specs.Device.{State, IsDevice, OnlyRead}
 use Rattle.wb_geometry.specs.Layout.{log_sectors}
 use Rattle.wb_geometry.specs.declared.geometry.Geometry.{Geometry}
-use Rattle.wb_geometry.proofs.Moments.{joined_same, same_device_trans}
-use Rattle.wb_super.specs.Superblock.{SuperText, record_of, header_id}
+use Rattle.wb_super.specs.Superblock.{SuperText, record_of}
 use Rattle.wb_super.specs.Found.{IsSuper, Refuses, IsFormattedFor}
 use Rattle.wb_super.specs.declared.reading.Super.{Super}
 use Rattle.wb_super.specs.declared.reading.SuperRefused.{SuperRefused}
 use Rattle.wb_super.specs.declared.reading.SuperRefused.TheVariants as refused
 use Rattle.wb_script.specs.Content.{ScriptContent}
-use Rattle.wb_replay.specs.Replaying.{IsOnlySynced}
 use Rattle.wb_replay.specs.declared.replaying.ReplayStop.{ReplayStop}
 use Rattle.wb_engine.specs.Opening.{MayOpen, Goes, HasRecovered, HasStopped}
 use Rattle.wb_engine.proofs.Openings.{goes_opened, recovered_opened, stopped_opened}

@@ -1,7 +1,6 @@
 -- What `recover` leaves, by how it ended.
-use Rattle.std.proofs.Common.{◌≡◌, ◌≢◌, ◌⊎◌, List, ℕ, ap, sym, subst, ◌∙◌, arith, inl, inr, refl, Result, Ok, Err}
-use Rattle.wb_geometry.specs.Device.{State, CountsFaultsWhere}
-use Rattle.wb_super.specs.declared.reading.SuperRefused.{SuperRefused}
+use Rattle.std.proofs.Common.{◌≡◌, ◌≢◌, ◌⊎◌, List, ℕ, ap, sym, ◌∙◌, arith, inl, inr, refl, Result, Ok, Err}
+use Rattle.wb_geometry.specs.Device.{CountsFaultsWhere}
 use Rattle.wb_super.specs.declared.reading.SuperRefused.TheVariants as refused
 use Rattle.wb_replay.specs.Stopping.{RefusesRecovery, RecoverStopsInTurn}
 use Rattle.wb_replay.specs.declared.replaying.Recovery.{Recovery}
@@ -9,7 +8,7 @@ use Rattle.wb_replay.specs.declared.recovering.RecoverStop.{RecoverStop}
 use Rattle.wb_replay.specs.declared.recovering.RecoverStop.TheVariants as cause
 use Rattle.wb_serve.specs.Session.{Devices}
 use Rattle.wb_tool.specs.Run.{Lent, Took, EndsTelling}
-use Rattle.wb_tool.specs.Recover.{HasGone, EndsStopped, EndsRecovered, RecoverEnds, stopped_status, stopped_line, recovered_line}
+use Rattle.wb_tool.specs.Recover.{HasGone, EndsWell, IsLeftWanting, RecoverEnds, stopped_status, stopped_line, recovered_line}
 use Rattle.wb_tool.proofs.Stops.{super_at_6, super_not_7}
 
 -- the cause says that the log failed
@@ -52,6 +51,17 @@ says_log : (answer : Result Recovery RecoverStop) (why : RecoverStop) → answer
 says_log answer why is (inl e) = inl (one_stop answer why (cause.Super refused.Fault) is e)
 says_log answer why is (inr e) = inr (one_stop answer why cause.LogFault is e)
 
+-- where memory was wanting for the line: a fault's line needs none
+left_stopped : (before after : Devices) (status : ℕ) (why : RecoverStop) → RefusesRecovery before.log before.backing.sectors why
+    → RecoverStopsInTurn why before.log after.log before.backing after.backing → (SaysLog why → status ≡ 6) → (why ≡ cause.BackingFault → status ≡ 7)
+    → status ≡ 1 → IsLeftWanting before after
+left_stopped before after status (cause.Super refused) refuses so_far six seven one = inl so_far
+left_stopped before after status (cause.Backing needs has) refuses so_far six seven one = inl so_far
+left_stopped before after status cause.Memory refuses so_far six seven one = inl so_far
+left_stopped before after status (cause.Stray slot id) refuses so_far six seven one = inr (inl (slot, id, refuses, so_far))
+left_stopped before after status cause.LogFault refuses so_far six seven one = absurd (let is = six (inr refl) in omega (arith, is, one))
+left_stopped before after status cause.BackingFault refuses so_far six seven one = absurd (let is = seven refl in omega (arith, is, one))
+
 -- it stopped
 pub recover_stopped : (sink : Lent) (before after : Devices) (status : ℕ) (answer : Result Recovery RecoverStop) (why : RecoverStop) → answer ≡ Err why → HasGone before after
     → CountsFaultsWhere (AnswersLog answer) before.log.faults after.log.faults → CountsFaultsWhere (answer ≡ Err cause.BackingFault) before.backing.faults after.backing.faults
@@ -70,6 +80,7 @@ recover_stopped sink before after status answer why is went log backing refuses 
     failed = λ at. backing.failed (is ∙ ap (λ (c : RecoverStop). Err c) (backing_at_7 why (known status (stopped_status why) (Took sink (stopped_line why)) (λ one. omega (arith, at, one)) told ∙ at)));
     kept = λ other. backing.kept (λ says. other (seven (one_stop answer why cause.BackingFault is says)));
   };
+  wanting = left_stopped before after status why refuses so_far six seven;
   ends = elim told [
     | inl one ↦ inl one
     | inr line ↦ inr (inl (record { cause = why; why = refuses; so_far = so_far; ended = line.0; told = line.1 }))
@@ -82,8 +93,8 @@ no_fault status other before after Failed counts none differs = record { later =
 
 pub recover_well : (sink : Lent) (before after : Devices) (status : ℕ) (answer : Result Recovery RecoverStop) (recovery : Recovery) → answer ≡ Ok recovery → HasGone before after
     → CountsFaultsWhere (AnswersLog answer) before.log.faults after.log.faults → CountsFaultsWhere (answer ≡ Err cause.BackingFault) before.backing.faults after.backing.faults
-    → status ≢ 6 → status ≢ 7 → (status ≡ 1) ⊎ EndsRecovered sink before after status → RecoverEnds sink before after status
-recover_well sink before after status answer recovery is went log backing not_6 not_7 ends = record {
+    → status ≢ 6 → status ≢ 7 → EndsWell before after recovery → (status ≡ 1) ⊎ EndsTelling sink status (recovered_line recovery) → RecoverEnds sink before after status
+recover_well sink before after status answer recovery is went log backing not_6 not_7 well ends = record {
   went = went;
   log_faults = no_fault status 6 before.log.faults after.log.faults (AnswersLog answer) log (λ says. elim says [
     | inl e ↦ let both : Ok recovery ≡ Err (cause.Super refused.Fault) = sym is ∙ e in cc
@@ -91,9 +102,10 @@ recover_well sink before after status answer recovery is went log backing not_6 
   ]) not_6;
   backing_faults = no_fault status 7 before.backing.faults after.backing.faults (answer ≡ Err cause.BackingFault) backing
       (λ e. let both : Ok recovery ≡ Err cause.BackingFault = sym is ∙ e in cc) not_7;
+  wanting = λ one. inr (inr (recovery, well));
   ends = elim ends [
     | inl one ↦ inl one
-    | inr well ↦ inr (inr well)
+    | inr told ↦ inr (inr (record { recovery = recovery; well = well; told = told }))
   ];
 }
 

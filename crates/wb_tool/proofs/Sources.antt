@@ -9,8 +9,7 @@ use Rattle.wb_script.specs.declared.refusal.Cause.{Cause}
 use Rattle.wb_tool.specs.Run.{Lent, Run, run_of, no_source, HasFailed, HasNotFailed, Spells, Refuses, Took}
 use Rattle.wb_tool.specs.Reads.{IsRead}
 use Rattle.wb_tool.specs.Texts.{source_line, refused_line}
-use Rattle.wb_geometry.specs.declared.which.Which.{Which}
-use Rattle.wb_tool.specs.Serve.{IsUnbegun, EndsByFault, IsStopped, IsLeftBy, IsLeftFrom}
+use Rattle.wb_tool.specs.Serve.{IsUnbegun, IsLeftBy, IsLeftFrom}
 use Rattle.wb_tool.specs.Stages.{Leaves, EndsReading, EndsServing}
 use Rattle.wb_tool.proofs.Accounts.{faults_kept}
 

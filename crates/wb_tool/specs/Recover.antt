@@ -2,7 +2,7 @@
 use Rattle.std.specs.Prelude.{ℕ, ◌≡◌, ◌⊎◌, ◌+◌, ◌-◌, List, [], ◌++◌, codes, Some}
 use Rattle.std.specs.Fmt.{decimal}
 use Rattle.wb_geometry.specs.Image.{Image}
-use Rattle.wb_geometry.specs.Device.{NothingPending, ContentPasses, CountsFaultsWhere}
+use Rattle.wb_geometry.specs.Device.{NothingPending, ContentPasses, CountsFaultsWhere, OnlyRead, IsUncalled}
 use Rattle.wb_geometry.specs.declared.geometry.Geometry.{Geometry}
 use Rattle.wb_geometry.specs.declared.which.Which.TheVariants.{Log, Backing}
 use Rattle.wb_super.specs.Superblock.{SuperText, record_of}
@@ -58,19 +58,34 @@ pub record EndsStopped (sink : Lent) (before after : Devices) (status : ℕ) : T
   pub ended : status ≡ stopped_status cause
   pub told : Took sink (stopped_line cause)
 
--- The backing device has what recovery makes of its content, the log has the new record and no other change, a crash leaves
--- both so, and the line was told.
-pub record EndsRecovered (sink : Lent) (before after : Devices) (status : ℕ) : Type 0 where
+-- The backing device has what recovery makes of its content, the log has the new record and no other change, and a crash
+-- leaves both so.
+pub record EndsWell (before after : Devices) (recovery : Recovery) : Type 0 where
   pub found : Super
   pub may : MayRecover before.log before.backing.sectors found
-  pub recovery : Recovery
   pub numbers : IsNumbered found recovery
   pub chain : (g : Geometry) (x : Image) → before.log.content ≡ Some x → SuperText x g 1 → TellsChain g x recovery
   pub all_put : (g : Geometry) (x : Image) → before.log.content ≡ Some x → SuperText x g 1 → IsAllPut g x before.backing after.backing
   pub records : (g : Geometry) (x : Image) → before.log.content ≡ Some x → SuperText x g 1 → ContentPasses (Records (record_of x + g.slots)) before.log after.log
   pub durable : NothingPending after.log × NothingPending after.backing
   pub left : (g : Geometry) (x y z : Image) → SuperText x g 1 → MakesOf g x y z before.log before.backing → LeavesRecovered g x z after.log after.backing
+
+-- It ended well, and the line was told.
+pub record EndsRecovered (sink : Lent) (before after : Devices) (status : ℕ) : Type 0 where
+  pub recovery : Recovery
+  pub well : EndsWell before after recovery
   pub told : EndsTelling sink status (recovered_line recovery)
+
+-- a slot has an id that is too high, and it is the first that has
+abbrev pub StopsAtStray : (before after : Devices) → Type 0
+StopsAtStray before after = (slot : ℕ) × (id : ℕ) × RefusesRecovery before.log before.backing.sectors (cause.Stray slot id)
+    × RecoverStopsInTurn (cause.Stray slot id) before.log after.log before.backing after.backing
+
+-- What it left where memory was wanting, over whatever log: that was only read, and the backing device not called; or memory
+-- was wanting for the line alone, behind a stray slot or a recovery.
+abbrev pub IsLeftWanting : (before after : Devices) → Type 0
+IsLeftWanting before after = (OnlyRead before.log after.log × IsUncalled before.backing after.backing)
+    ⊎ StopsAtStray before after ⊎ ((recovery : Recovery) × EndsWell before after recovery)
 
 -- What it leaves of both devices and the sink. The faults of the log rose exactly at status 6, and those of the backing
 -- device exactly at status 7.
@@ -78,6 +93,7 @@ pub record RecoverEnds (sink : Lent) (before after : Devices) (status : ℕ) : T
   pub went : HasGone before after
   pub log_faults : CountsFaultsWhere (status ≡ 6) before.log.faults after.log.faults
   pub backing_faults : CountsFaultsWhere (status ≡ 7) before.backing.faults after.backing.faults
+  pub wanting : status ≡ 1 → IsLeftWanting before after
   pub ends : (status ≡ 1) ⊎ EndsStopped sink before after status ⊎ EndsRecovered sink before after status
 
 pub record RecoverAccount (run : Run) : Type 0 where

@@ -1,8 +1,30 @@
 -- The superblock, the memory, and then recovery.
-use Rattle.std.proofs.Common.{rules, ℕ, subst, inr}
-use Rattle.wb_engine.specs.Opening.{MayOpen}
-use Rattle.wb_engine.proofs.Openings.{buffer_size, goes_opened, recovered_opened, stopped_opened, log_counts, backing_counts}
+use Rattle.std.proofs.Common.{rules, ℕ, ap, ◌∙◌, subst, inr, Err}
+use Rattle.std.proofs.lemmas.Result.{err_from_is_err_and}
+use Rattle.wb_replay.proofs.Turns.{at_err}
+use Rattle.wb_engine.specs.Opening.{MayOpen, RefusesLog}
+use Rattle.wb_engine.specs.declared.opening.OpenCause.{OpenCause}
+use Rattle.wb_engine.specs.declared.opening.OpenCause.TheVariants.{Memory}
+use Rattle.wb_engine.proofs.Openings.{buffer_size, goes_opened, recovered_opened, stopped_opened, unbegun_opened, log_counts, backing_counts}
 use Rattle.wb_engine.proofs.opening.prepare.Goals as goal
+
+-- it isn't begun
+
+pub returns-in_err-found-clause-refused : goal.returns-in_err-found-clause-refused
+returns-in_err-found-clause-refused g c =
+    let why = c.in_err-found.field-0.0 in
+    let p = err_from_is_err_and c.from_residual.result c.from_residual.ensures.1 in
+    let refuses = subst (λ (n : ℕ). RefusesLog (g.L.Device.state c.args.log.now) n why) c.sectors.ensures c.in_err-found.ensures.refused in
+    at_err _ c.from_residual.result why (p.1 ∙ ap (λ (cause : OpenCause). Err cause) p.2)
+    (unbegun_opened (g.L.Device.state c.args.log.now) (g.L.Device.state c.judge.new.log) (g.B.Device.state c.args.backing.now) why refuses c.judge.ensures.only_read)
+
+pub returns-in_default-clause-refused : goal.returns-in_default-clause-refused
+returns-in_default-clause-refused g c =
+    let found = c.in_ok-found.found in
+    let may = subst (λ (n : ℕ). MayOpen (g.L.Device.state c.args.log.now) n found) c.sectors.ensures c.in_ok-found.ensures.found in
+    unbegun_opened (g.L.Device.state c.args.log.now) (g.L.Device.state c.judge.new.log) (g.B.Device.state c.args.backing.now) Memory (found, may) c.judge.ensures.only_read
+
+-- it is
 
 pub returns-in-Ok-replay-clause-ready : goal.returns-in-Ok-replay-clause-ready
 returns-in-Ok-replay-clause-ready g c =

@@ -9,24 +9,36 @@ returns-in-Ok-recovered_text g c =
     let well = c.in-Ok.ensures in
     let told = telling_same _ _ _ _ c.answer.ensures (c.as_str.ensures.value ∙ c.in-Ok-recovered_text.ensures) in
     recover_well _ _ _ _ c.recover.result c.in-Ok.recovery c.in-Ok.is (record { in_turn = call.goes; crash = call.crash; contents = call.contents }) call.log_cause call.backing_cause
-    (telling_not_6 _ _ _ told) (telling_not_7 _ _ _ told) (inr (record {
+    (telling_not_6 _ _ _ told) (telling_not_7 _ _ _ told)
+    (record {
       found = well.numbers.0;
       may = well.numbers.1;
-      recovery = c.in-Ok.recovery;
       numbers = well.numbers.2;
       chain = well.chain;
       all_put = well.all_put;
       records = well.records;
       durable = well.durable;
       left = well.left;
-      told = told;
-    }))
+    })
+    (inr told)
 
 pub returns-in-Err-recovered_text : goal.returns-in-Err-recovered_text
 returns-in-Err-recovered_text g c =
     let call = c.recover.ensures in
+    let well = c.in-Ok.ensures in
     recover_well _ _ _ _ c.recover.result c.in-Ok.recovery c.in-Ok.is (record { in_turn = call.goes; crash = call.crash; contents = call.contents }) call.log_cause call.backing_cause
-    (λ six. omega arith) (λ seven. omega arith) (inl refl)
+    (λ six. omega arith) (λ seven. omega arith)
+    (record {
+      found = well.numbers.0;
+      may = well.numbers.1;
+      numbers = well.numbers.2;
+      chain = well.chain;
+      all_put = well.all_put;
+      records = well.records;
+      durable = well.durable;
+      left = well.left;
+    })
+    (inl refl)
 
 pub returns-in-Err : goal.returns-in-Err
 returns-in-Err g c =
