@@ -58,11 +58,17 @@ pub record HasNamed (v w : View) (p : ℕ) (e : HistoryEntry) : Type 0 where
   pub stable : w.seen.stable ≡ v.seen.stable
   pub fault : w.seen.fault ≡ v.seen.fault
 
--- why no place was claimed. Both numbers were loaded in the call
+-- Why no place was claimed, the first of three causes. Its numbers were loaded in the call, but for the one that the exchange found.
 abbrev pub IsCause : Shape → Loads → Loads → NoClaim → Type 0
 IsCause k before now (IdsSpent cursor) = (2 ^ 48 < segment_at k cursor) × IsLoaded before.cursor now.cursor cursor
-IsCause k before now (NoRoom cursor limit) = (cursor ≡ limit) × IsLoaded before.cursor now.cursor cursor × IsLoaded before.limit now.limit limit
-IsCause k before now (Busy expected found) = (expected < found) × IsLoaded before.cursor now.cursor expected
+IsCause k before now (NoRoom cursor limit) = (cursor ≡ limit) × (segment_at k cursor ≤ 2 ^ 48) × IsLoaded before.cursor now.cursor cursor × IsLoaded before.limit now.limit limit
+IsCause k before now (Busy expected found) = (expected < found) × (segment_at k expected ≤ 2 ^ 48) × (expected ≢ now.limit.last) × IsLoaded before.cursor now.cursor expected × IsLoaded before.limit now.limit now.limit.last
+
+-- the pass has then seen the numbers that the refusal has
+abbrev pub HasLearnt : View → NoClaim → Type 0
+HasLearnt w (IdsSpent cursor) = w.seen.cursor ≡ cursor
+HasLearnt w (NoRoom cursor limit) = (w.seen.cursor ≡ cursor) × (w.seen.limit ≡ limit)
+HasLearnt w (Busy expected found) = w.seen.cursor ≡ found
 
 -- why the next place was not taken: the word of its cell that was loaded is another number. The cursor was loaded too
 abbrev pub IsWaiting : Loads → Loads → NotFilled → Type 0
@@ -99,3 +105,5 @@ pub record HasBumped (v w : View) (next through : ℕ) : Type 0 where
   pub after : v.seen.cursor ≤ next
   pub cursor : w.seen.cursor ≡ max next through
   pub limit : w.seen.limit ≡ v.seen.limit
+  pub stable : w.seen.stable ≡ v.seen.stable
+  pub fault : w.seen.fault ≡ v.seen.fault

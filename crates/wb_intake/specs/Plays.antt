@@ -8,7 +8,7 @@ use Rattle.wb_steps.specs.Steps.{seeing}
 use Rattle.wb_steps.specs.declared.view.View.{View}
 use Rattle.wb_steps.specs.declared.view.Role.TheVariants.{Owner}
 use Rattle.wb_intake.specs.declared.sight.Sight.{Sight}
-use Rattle.wb_intake.specs.Sights.{HasMet, counted, fresh}
+use Rattle.wb_intake.specs.Sights.{HasMet, NamesRightly, counted, fresh}
 
 abbrev pub Sat : Type 0
 Sat = Me (Option HistoryEntry) Sight
@@ -32,9 +32,9 @@ IsUp v (suc zero) n = (v.seen.limit ≤ n) × (v.seen.cursor ≤ n)
 IsUp v (suc (suc zero)) n = v.seen.stable ≤ n
 IsUp v (suc (suc (suc word))) n = IsPartwiseAtMost v.seen.fault (parts_of n)
 
--- a look at one of the first four words, by which a seat also learns that it had all of whom it met
+-- a look at one of the first four words, by which a seat also learns that it had all of whom it met, and an owner that it names places rightly
 abbrev pub sees : At → Sat → ℕ → Sat → Type 0
-sees st m n m' = IsUp m.0.view st.word n × HasMet m.0 × (m' ≡ (with_load m.0 (seeing m.0.view st.word n) st.word n, m.1))
+sees st m n m' = IsUp m.0.view st.word n × HasMet m.0 × NamesRightly m.0.view × (m' ≡ (with_load m.0 (seeing m.0.view st.word n) st.word n, m.1))
 
 -- a claim: the place is named for the entry where the cursor stood there, and else the cursor is seen
 abbrev pub claims : HistoryEntry → At → Sat → ℕ → Sat → Type 0

@@ -1,15 +1,15 @@
 -- What a seat knows beside its view, and the rule of the table.
-use Rattle.std.specs.Prelude.{ℕ, ◌≡◌, ◌+◌, ◌-◌, ◌<◌, ◌≤◌, zero, suc, List, [], ◌∷◌, length, map, Option, Some, None}
+use Rattle.std.specs.Prelude.{ℕ, ◌≡◌, ◌+◌, ◌-◌, ◌<◌, ◌≤◌, zero, suc, List, [], ◌∷◌, ◌++◌, length, map, All, Option, Some, None}
 use mathlib.Core.Option.{some}
 use lib.ListN.{get_elem?}
 use Rattle.atomic_table.specs.Table.{State}
 use Rattle.wb_geometry.specs.History.{HistoryEntry}
 use Rattle.wb_steps.specs.Faults.{IsPartwiseAtMost}
-use Rattle.wb_steps.specs.Views.{IsPrefix, beginning}
+use Rattle.wb_steps.specs.Views.{IsPrefix, placed, beginning}
 use Rattle.wb_steps.specs.Rule.{Intake, cells, IsLawful}
 use Rattle.wb_steps.specs.declared.shape.Shape.{Shape}
 use Rattle.wb_steps.specs.declared.view.View.{View}
-use Rattle.wb_steps.specs.declared.view.Role.TheVariants.{Drain}
+use Rattle.wb_steps.specs.declared.view.Role.TheVariants.{Owner, Drain}
 use Rattle.wb_intake.specs.declared.sight.Load.{Load}
 use Rattle.wb_intake.specs.declared.sight.Loads.{Loads}
 use Rattle.wb_intake.specs.declared.sight.Meeting.{Meeting}
@@ -29,6 +29,14 @@ pub record IsBehind (drain pass : View) : Type 0 where
 -- the drain had all of the pass that it met last
 abbrev pub HasMet : Sight → Type 0
 HasMet x = (m : Meeting) → x.met ≡ Some m → IsBehind m.drain m.pass
+
+-- the entries of an owner's client in what it knows are the first that it names, and the others that it names stand behind what it knows
+abbrev pub IsLegal : View → Type 0
+IsLegal v = (later : List (ℕ × HistoryEntry)) × (v.mine ≡ placed v.client 0 v.known ++ later) × All (λ m. length v.known ≤ m.0) later
+
+-- what an owner names is legal, and stands below the cursor that it has seen
+abbrev pub NamesRightly : View → Type 0
+NamesRightly v = v.role ≡ Owner → IsLegal v × All (λ m. m.0 < v.seen.cursor) v.mine
 
 -- the rule of the table is that of the machine, and that each seat had all of whom it met
 abbrev pub Holds : Shape → State (Option HistoryEntry) Sight → Type 0

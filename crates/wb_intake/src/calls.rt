@@ -1,13 +1,13 @@
 //! The calls of the intake.
-ghost use Rattle.std.specs.Prelude.{◌≡◌, ◌≢◌, ◌+◌, ◌-◌, ◌%◌, ◌<◌, ◌≤◌, ◌^◌, ℕ, [], ◌∷◌, length, IfOk, IfErr, None};
+ghost use Rattle.std.specs.Prelude.{◌≡◌, ◌≢◌, ◌+◌, ◌-◌, ◌%◌, ◌<◌, ◌≤◌, ◌^◌, ℕ, [], ◌∷◌, length, All, IfOk, IfErr, None};
 ghost use Rattle.wb_geometry.specs.History.{Write};
 ghost use Rattle.wb_geometry.specs.Entering.{entered};
 ghost use Rattle.wb_steps.specs.Faults.{parts_of, IsPartwiseAtMost};
 ghost use Rattle.wb_steps.specs.Views.{telling, note_of, copy, hearing, filling};
 ghost use Rattle.wb_steps.specs.Rule as rule;
 ghost use Rattle.wb_steps.specs.Steps.{seeing, IsRoundedUp};
-ghost use Rattle.wb_intake.specs.Sights.{IsLoaded, IsBehind};
-ghost use Rattle.wb_intake.specs.Belongs.{Saw, HasNamed, HasClaimed, HasDrained, IsCause, IsWaiting, IsOwed, HasBumped};
+ghost use Rattle.wb_intake.specs.Sights.{IsLoaded, IsBehind, IsLegal};
+ghost use Rattle.wb_intake.specs.Belongs.{Saw, HasNamed, HasClaimed, HasLearnt, HasDrained, IsCause, IsWaiting, IsOwed, HasBumped};
 ghost use Rattle.wb_intake.specs.Passes.{name_of, pass_name, drain_name, note_name, numbers_of, client_of_pass, place_of, block_of, view_of, loads_of, drain_view, drain_loads, note_view};
 
 use crate::answers::{Claim, Look, NoClaim, NotFilled, Parcel, Voids};
@@ -31,6 +31,7 @@ impl Intake {
         ensures room { IfOk result (λ c. (rule.segment_at (numbers_of self.now) (place_of c) ≤ 2 ^ 48) × (place_of c < (view_of pass.new).seen.limit)
             × IsLoaded (loads_of pass.old).cursor (loads_of pass.new).cursor (place_of c) × IsLoaded (loads_of pass.old).limit (loads_of pass.new).limit (view_of pass.new).seen.limit) }
         ensures saw { IfErr result (λ r. Saw (view_of pass.old) (view_of pass.new)) }
+        ensures learnt { IfErr result (λ r. HasLearnt (view_of pass.new) r) }
         ensures cause { IfErr result (λ r. IsCause (numbers_of self.now) (loads_of pass.old) (loads_of pass.new) r) }
     {
         self.claim_place(&mut pass.seat, pass.client, block, payload)
@@ -59,6 +60,7 @@ impl Intake {
         ensures own { drain_name drain.new ≡ drain_name drain.old }
         ensures taken { IfOk result (λ p. (p.place ≡ length (drain_view drain.old).known) × HasDrained (drain_view drain.old) (drain_view drain.new) (entered p.entry)) }
         ensures saw { IfErr result (λ r. (drain_view drain.new ≡ seeing (drain_view drain.old) 0 r.cursor) × ((drain_view drain.old).seen.cursor ≤ r.cursor)) }
+        ensures loaded { IfOk result (λ p. IsLoaded (drain_loads drain.old).cell (drain_loads drain.new).cell (p.place + 1)) }
         ensures waits { IfErr result (λ r. (r.place ≡ length (drain_view drain.old).known)
             × IsWaiting (drain_loads drain.old) (drain_loads drain.new) r) }
     {
@@ -166,11 +168,14 @@ impl Intake {
         self.meet_seats(&mut pass.seat, &mut drain.seat);
     }
 
-    /// Looks at the cursor, the limit, the stable number and the fault, by one load each.
+    /// Looks at the cursor, the limit, the stable number and the fault, by one load each. It also shows that what the pass
+    /// names is what its client has in what the pass knows, and places behind that, all below the cursor.
     pub fn look(&self, pass: &mut Pass) -> Look
         requires own { pass_name pass.old ≡ name_of self.now }
         ensures own { (pass_name pass.new ≡ pass_name pass.old) × (client_of_pass pass.new ≡ client_of_pass pass.old) }
         ensures saw { Saw (view_of pass.old) (view_of pass.new) }
+        ensures legal { IsLegal (view_of pass.new) }
+        ensures below { All (λ m. m.0 < result.cursor) (view_of pass.new).mine }
         ensures cursor { IsLoaded (loads_of pass.old).cursor (loads_of pass.new).cursor result.cursor × ((view_of pass.new).seen.cursor ≡ result.cursor) }
         ensures limit { IsLoaded (loads_of pass.old).limit (loads_of pass.new).limit result.limit × ((view_of pass.new).seen.limit ≡ result.limit) }
         ensures stable { IsLoaded (loads_of pass.old).stable (loads_of pass.new).stable result.stable × ((view_of pass.new).seen.stable ≡ result.stable) }
@@ -184,7 +189,7 @@ impl Intake {
         requires own { pass_name pass.old ≡ name_of self.now }
         requires free { (view_of pass.old).unfilled ≡ [] }
         ensures own { (pass_name pass.new ≡ pass_name pass.old) × (client_of_pass pass.new ≡ client_of_pass pass.old) }
-        ensures through { (cursor : ℕ) × IsLoaded (loads_of pass.old).cursor (loads_of pass.new).cursor cursor × IsRoundedUp (numbers_of self.now).places cursor result.through }
+        ensures through { (cursor : ℕ) × IsLoaded (loads_of pass.old).cursor (loads_of pass.new).cursor cursor × IsRoundedUp (numbers_of self.now).places cursor result.through × (cursor ≤ result.next) }
         ensures bumped { HasBumped (view_of pass.old) (view_of pass.new) result.next result.through }
         ensures owed { IsOwed (view_of pass.new) (client_of_pass pass.old) result.next result.left }
         ensures left { result.left ≡ result.through - result.next }

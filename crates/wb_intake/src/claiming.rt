@@ -4,7 +4,7 @@ ghost use Rattle.wb_geometry.specs.History.{Write};
 ghost use Rattle.wb_steps.specs.Rule as rule;
 ghost use Rattle.wb_steps.specs.declared.view.Role.TheVariants.{Owner};
 ghost use Rattle.wb_intake.specs.Sights.{IsLoaded};
-ghost use Rattle.wb_intake.specs.Belongs.{sight, IsSameSeat, Saw, HasNamed, IsCause};
+ghost use Rattle.wb_intake.specs.Belongs.{sight, IsSameSeat, Saw, HasNamed, HasLearnt, IsCause};
 
 use crate::answers::{Claim, NoClaim};
 use crate::board::Intake;
@@ -34,6 +34,7 @@ impl Intake {
         ensures room { IfOk result (λ c. (rule.segment_at self.now.shape c.place ≤ 2 ^ 48) × (c.place < (sight seat.new).view.seen.limit)
             × IsLoaded (sight seat.old).loads.cursor (sight seat.new).loads.cursor c.place × IsLoaded (sight seat.old).loads.limit (sight seat.new).loads.limit (sight seat.new).view.seen.limit) }
         ensures saw { IfErr result (λ r. Saw (sight seat.old).view (sight seat.new).view) }
+        ensures learnt { IfErr result (λ r. HasLearnt (sight seat.new).view r) }
         ensures cause { IfErr result (λ r. IsCause self.now.shape (sight seat.old).loads (sight seat.new).loads r) }
     {
         let cursor = self.load(seat, 0);

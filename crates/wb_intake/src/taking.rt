@@ -2,6 +2,7 @@
 ghost use Rattle.std.specs.Prelude.{◌≡◌, ◌≢◌, ◌+◌, ◌<◌, ◌≤◌, ◌^◌, [], length, IfOk, IfErr, None};
 ghost use Rattle.wb_steps.specs.Steps.{seeing};
 ghost use Rattle.wb_steps.specs.declared.view.Role.TheVariants.{Drain};
+ghost use Rattle.wb_intake.specs.Sights.{IsLoaded};
 ghost use Rattle.wb_intake.specs.Belongs.{sight, IsSameSeat, HasDrained, IsWaiting};
 
 use crate::answers::NotFilled;
@@ -19,6 +20,7 @@ impl Intake {
         ensures seat { IsSameSeat seat.old seat.new }
         ensures taken { IfOk result (λ e. HasDrained (sight seat.old).view (sight seat.new).view e) }
         ensures few { IfOk result (λ e. place + 1 ≤ 2 ^ 55) }
+        ensures loaded { IfOk result (λ e. IsLoaded (sight seat.old).loads.cell (sight seat.new).loads.cell (place + 1)) }
         ensures saw { IfErr result (λ r. ((sight seat.new).view ≡ seeing (sight seat.old).view 0 r.cursor) × ((sight seat.old).view.seen.cursor ≤ r.cursor)) }
         ensures waits { IfErr result (λ r. (r.place ≡ place) × IsWaiting (sight seat.old).loads (sight seat.new).loads r) }
     {
