@@ -28,8 +28,8 @@ use Rattle.wb_steps.proofs.Numbers.{cursor_seen, limit_seen, stable_seen, fault_
 use Rattle.wb_steps.proofs.Copies.{shown_law, told_law, heard_law, founded_law, roles_apart}
 use Rattle.wb_intake.specs.declared.sight.Sight.{Sight}
 use Rattle.wb_intake.specs.declared.sight.Meeting.{Meeting}
-use Rattle.wb_intake.specs.Sights.{IsBehind, HasMet, NamesRightly, Holds}
-use Rattle.wb_intake.specs.Plays.{Sat, IsUp, with_view, with_load, sees, claims, bumps, first_unfilled, enters, fills, takes_out, gives_back, publishes, tells, note, shown, hears, meets, gone, counting, owner}
+use Rattle.wb_intake.specs.Sights.{IsBehind, HasMet, NamesRightly, counted, Holds}
+use Rattle.wb_intake.specs.Plays.{Sat, IsUp, with_view, with_load, with_cell_load, sees, claims, bumps, first_unfilled, enters, fills, takes_out, gives_back, publishes, tells, note, shown, hears, meets, gone, counting, owner}
 use Rattle.wb_intake.proofs.Results.{placed_from}
 use Rattle.wb_intake.proofs.Lifted.{S, met_still, lift, lift_split, lift_join}
 
@@ -136,14 +136,14 @@ takes_as k shape n id me i role bare size is = lift k n id me i (λ y. y) (takes
       | inl says ↦
           let says' : get_or s.words (cell_word k p) 0 ≡ p + 1 = ap (λ (x : ℕ). get_or s.words x 0) (sym is) ∙ says in
           let f = filled_next k s law id v at role bare says' in let e : HistoryEntry = f.2.0 in let few = few_places k law.truth s.words s.homes shape law.sound in (
-            with_load me.0 (Rattle.wb_steps.specs.Views.taking v e) 4 r,
+            with_cell_load me.0 (Rattle.wb_steps.specs.Views.taking v e) i r,
             takes (p % cells k) (Some e),
             f.2.2,
             refl,
             subst (λ (x : ℕ). IsLawful k record { words = set s.words x (get_or s.words x 0); homes = set s.homes (p % cells k) none; views = set s.views id (Rattle.wb_steps.specs.Views.taking v e) }) (sym is) (taken_law k s law id v e at role bare says' f.2.2),
-            ((λ _. (omega (arith, f.0, few), e, (λ z. (with_load me.0 (Rattle.wb_steps.specs.Views.taking v e) 4 r, (p % sym size z, Some e) ∷ me.1)))), λ waits. absurd (waits says)),
+            ((λ _. (omega (arith, f.0, few), e, (λ z. (with_cell_load me.0 (Rattle.wb_steps.specs.Views.taking v e) i r, (p % sym size z, Some e) ∷ me.1)))), λ waits. absurd (waits says)),
           )
-      | inr waits ↦ (with_load me.0 v 4 r, keeps, tt, refl, same_word k s i (set s.views id v) (subst (λ (vs : List View). IsLawful k record { words = s.words; homes = s.homes; views = vs }) (sym (set_again s.views id v at)) law), ((λ says. absurd (waits says)), λ _. refl))
+      | inr waits ↦ (with_cell_load me.0 v i r, keeps, tt, refl, same_word k s i (set s.views id v) (subst (λ (vs : List View). IsLawful k record { words = s.words; homes = s.homes; views = vs }) (sym (set_again s.views id v at)) law), ((λ says. absurd (waits says)), λ _. refl))
     ])
 
 -- the drain gives the cell back, which is empty
@@ -218,7 +218,7 @@ met_view v w n role h =
 
 -- what the drain knows that received a copy y of the owner's o, and then looked at the cursor and found n
 pub met_all : (d o y z w : Sight) (n : ℕ) → d.view.role ≡ Drain → y ≡ shown o → z ≡ meets d y → HasMet z → IsUp z.view 0 n → w ≡ with_load z (seeing z.view 0 n) 0 n
-    → (w.view ≡ seeing d.view 0 n) × (o.view.seen.cursor ≤ n) × (d.view.seen.cursor ≤ n) × IsBehind w.view o.view
+    → (w.view ≡ seeing d.view 0 n) × (w.loads ≡ counted d.loads 0 n) × (o.view.seen.cursor ≤ n) × (d.view.seen.cursor ≤ n) × IsBehind w.view o.view
 met_all d o y z w n role copy joined had up looked =
     let is : z ≡ meets d (shown o) = joined ∙ ap (meets d) copy in
     let b : IsBehind d.view (shown o).view = subst HasMet is had (record { drain = d.view; pass = (shown o).view }) refl in
@@ -226,6 +226,7 @@ met_all d o y z w n role copy joined had up looked =
     let same : w.view ≡ seeing d.view 0 n = ap (λ (x : Sight). x.view) looked ∙ ap (λ (x : Sight). seeing x.view 0 n) is ∙ met_view d.view (shown o).view n role b in
     let cursor = high.0 in (
       same,
+      ap (λ (x : Sight). x.loads) looked ∙ ap (λ (x : Sight). counted x.loads 0 n) is,
       omega (arith, cursor),
       omega (arith, cursor),
       subst (λ (v : View). IsBehind v o.view) (sym same) (record { known = b.known; limit = b.limit; stable = b.stable; fault = b.fault }),
@@ -239,8 +240,8 @@ fills_at k n id x me i new p j e more is role first named word next =
     (fills_as k n id (with_view x (Rattle.wb_steps.specs.Views.holding x.view p), (p % cells k, Some e) ∷ []) i new p j e [] role (subst (λ (l : List ℕ). Contains l p) (sym first) (Rattle.wb_steps.proofs.Lists.Contains-first p more)) named word next refl)
 
 -- the drain that took an entry out gives the cell back
-pub gives_at : (k : Shape) (n id : ℕ) (x : Sight) (me : Sat) (i r : ℕ) (e : HistoryEntry) → me ≡ (with_load x (Rattle.wb_steps.specs.Views.taking x.view e) 4 r, (length x.view.known % cells k, None) ∷ [])
+pub gives_at : (k : Shape) (n id : ℕ) (x : Sight) (me : Sat) (i r : ℕ) (e : HistoryEntry) → me ≡ (with_cell_load x (Rattle.wb_steps.specs.Views.taking x.view e) i r, (length x.view.known % cells k, None) ∷ [])
     → x.view.role ≡ Drain → i ≡ cell_word k (length x.view.known) → Allows (Holds k) n id me i (λ _. 0) (gives_back (step n i 0 0 none) me)
 gives_at k n id x me i r e is role word =
     subst (λ (m : Sat). Allows (Holds k) n id m i (λ _. 0) (gives_back (step n i 0 0 none) m)) (sym is)
-    (gives_as k n id (with_load x (Rattle.wb_steps.specs.Views.taking x.view e) 4 r, (length x.view.known % cells k, None) ∷ []) i [] role (λ h. Rattle.wb_steps.proofs.Phases.held-ne-none (length x.view.known) h) word refl)
+    (gives_as k n id (with_cell_load x (Rattle.wb_steps.specs.Views.taking x.view e) i r, (length x.view.known % cells k, None) ∷ []) i [] role (λ h. Rattle.wb_steps.proofs.Phases.held-ne-none (length x.view.known) h) word refl)

@@ -8,7 +8,7 @@ use Rattle.wb_steps.specs.Steps.{seeing}
 use Rattle.wb_steps.specs.declared.view.View.{View}
 use Rattle.wb_steps.specs.declared.view.Role.TheVariants.{Owner}
 use Rattle.wb_intake.specs.declared.sight.Sight.{Sight}
-use Rattle.wb_intake.specs.Sights.{HasMet, NamesRightly, counted, fresh}
+use Rattle.wb_intake.specs.Sights.{HasMet, NamesRightly, counted, cell_counted, fresh}
 
 abbrev pub Sat : Type 0
 Sat = Me (Option HistoryEntry) Sight
@@ -23,6 +23,10 @@ with_view x v = record x { view = v }
 -- the seat with another view, by a load of the word that found n
 abbrev pub with_load : Sight → View → (word n : ℕ) → Sight
 with_load x v word n = record x { view = v; loads = counted x.loads word n }
+
+-- the seat with another view, by a load of the word of a cell that found n
+abbrev pub with_cell_load : Sight → View → (word n : ℕ) → Sight
+with_cell_load x v word n = record x { view = v; loads = cell_counted x.loads word n }
 
 -- A number that is seen is not below what was seen before. The cursor is at least the length of what is known, and so small that each
 -- place has an id; the limit is at least the cursor that was seen
@@ -59,8 +63,8 @@ fills st m n m' = m' ≡ (with_view m.0 (filling m.0.view (st.first - 1)), rest 
 
 -- the drain finds the next place filled, whose number is so small that it has an id, and takes its entry out; or it finds another number in the word
 abbrev pub takes_out : At → Sat → ℕ → Sat → Type 0
-takes_out st m n m' = (n ≡ length m.0.view.known + 1 → (length m.0.view.known + 1 ≤ 2 ^ 55) × (e : HistoryEntry) × (m' ≡ (with_load m.0 (taking m.0.view e) 4 n, (length m.0.view.known % st.slots, Some e) ∷ m.1)))
-    × (n ≢ length m.0.view.known + 1 → m' ≡ (with_load m.0 m.0.view 4 n, m.1))
+takes_out st m n m' = (n ≡ length m.0.view.known + 1 → (length m.0.view.known + 1 ≤ 2 ^ 55) × (e : HistoryEntry) × (m' ≡ (with_cell_load m.0 (taking m.0.view e) st.word n, (length m.0.view.known % st.slots, Some e) ∷ m.1)))
+    × (n ≢ length m.0.view.known + 1 → m' ≡ (with_cell_load m.0 m.0.view st.word n, m.1))
 
 -- the drain gives the cell back
 abbrev pub gives_back : At → Sat → ℕ → Sat → Type 0
