@@ -64,5 +64,5 @@ pub struct Voids {
     pub through: u64,
     pub next: u64,
     pub left: u64,
-    pub ghost fits: { next + left < 2 ^ 64 },
+    ghost fits: { next + left < 2 ^ 64 },
 }

@@ -64,28 +64,38 @@ fn tell_on(intake: &Intake, one: &mut Pass, two: &mut Pass, drain: &mut Drain) -
         && (seen.cursor, seen.limit, seen.stable, seen.fault) == (0, 2, 0, 5)
 }
 
+/// Whether notes are told and heard in a new intake as they should be.
+fn two_passes_tell(alloc: Global) -> Result<bool, AllocError> {
+    let Ok(geometry) = Geometry::new(4, 2, 2, 64) else {
+        return Ok(false);
+    };
+    let (intake, mut passes, mut drain) = Intake::new(alloc, &geometry, 0, 2)?;
+    let [one, two] = passes.as_mut_slice() else {
+        return Ok(false);
+    };
+    Ok(tell_on(&intake, one, two, &mut drain))
+}
+
+/// Whether an entry goes through a new intake as it should.
+fn one_goes_through(alloc: Global) -> Result<bool, AllocError> {
+    let Ok(geometry) = Geometry::new(4, 2, 2, 64) else {
+        return Ok(false);
+    };
+    let (intake, mut passes, mut drain) = Intake::new(alloc, &geometry, 0, 1)?;
+    let Some(mut pass) = passes.pop() else {
+        return Ok(false);
+    };
+    go_through(alloc, &intake, &mut pass, &mut drain)
+}
+
 #[test]
 fn notes_are_told(rt: HostRuntime) -> Result<(), AllocError> {
-    let Ok(geometry) = Geometry::new(4, 2, 2, 64) else {
-        return Ok(());
-    };
-    let (intake, mut passes, mut drain) = Intake::new(rt.alloc(), &geometry, 0, 2)?;
-    let [one, two] = passes.as_mut_slice() else {
-        return Ok(());
-    };
-    assert!(rt; tell_on(&intake, one, two, &mut drain));
+    assert!(rt; two_passes_tell(rt.alloc())?);
     Ok(())
 }
 
 #[test]
 fn an_entry_goes_through(rt: HostRuntime) -> Result<(), AllocError> {
-    let Ok(geometry) = Geometry::new(4, 2, 2, 64) else {
-        return Ok(());
-    };
-    let (intake, mut passes, mut drain) = Intake::new(rt.alloc(), &geometry, 0, 1)?;
-    let Some(mut pass) = passes.pop() else {
-        return Ok(());
-    };
-    assert!(rt; go_through(rt.alloc(), &intake, &mut pass, &mut drain)?);
+    assert!(rt; one_goes_through(rt.alloc())?);
     Ok(())
 }
