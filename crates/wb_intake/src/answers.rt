@@ -60,9 +60,10 @@ pub struct Look {
 
 /// Places that a bump named for voids: `left` places from `next` on, which have to be filled. `through` is the end of the
 /// segment. It has to be finished.
+#[non_exhaustive]
 pub struct Voids {
     pub through: u64,
     pub next: u64,
     pub left: u64,
-    ghost fits: { next + left < 2 ^ 64 },
+    pub ghost fits: { next + left < 2 ^ 64 },
 }
