@@ -70,9 +70,9 @@ HasLearnt w (IdsSpent cursor) = w.seen.cursor ≡ cursor
 HasLearnt w (NoRoom cursor limit) = (w.seen.cursor ≡ cursor) × (w.seen.limit ≡ limit)
 HasLearnt w (Busy expected found) = w.seen.cursor ≡ found
 
--- why the next place was not taken: the word of its cell was loaded, and is another number. The cursor was loaded too
+-- why the next place was not taken: the word of its cell was loaded, and is another number. The cursor was loaded too, and is no lower than the place
 abbrev pub IsWaiting : Shape → Loads → Loads → NotFilled → Type 0
-IsWaiting k before now r = (r.word ≢ r.place + 1) × IsCellLoaded before.cell now.cell (cell_word k r.place) r.word × IsLoaded before.cursor now.cursor r.cursor
+IsWaiting k before now r = (r.word ≢ r.place + 1) × IsCellLoaded before.cell now.cell (cell_word k r.place) r.word × IsLoaded before.cursor now.cursor r.cursor × (r.place ≤ r.cursor)
 
 -- the drained list grew by the entry. All else is as before, but that the cursor that was seen is above the place
 pub record HasDrained (v w : View) (e : HistoryEntry) : Type 0 where
