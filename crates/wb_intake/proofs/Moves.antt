@@ -12,14 +12,14 @@ use Rattle.atomic_table.specs.Table.{State, Me, Step, step, Act, keeps, takes, g
 use Rattle.atomic_table.proofs.Lists.{exchanged, set_again, set_else}
 use Rattle.wb_geometry.specs.History.{HistoryEntry, client_of}
 use Rattle.wb_steps.specs.Faults.{parts_of, IsPartwiseAtMost}
-use Rattle.wb_steps.specs.Views.{IsPrefix, longer, heard_by, hearing}
-use Rattle.wb_steps.specs.Rule.{Intake, IsShape, cells, cell_word, MayStand, HasSeen, Drains, Fits, IsLawful}
+use Rattle.wb_steps.specs.Views.{IsPrefix, placed, longer, heard_by, hearing}
+use Rattle.wb_steps.specs.Rule.{Intake, IsShape, cells, cell_word, MayStand, HasSeen, Owns, Drains, Fits, IsLawful}
 use Rattle.wb_steps.specs.Steps.{seeing}
 use Rattle.wb_steps.specs.declared.shape.Shape.{Shape}
 use Rattle.wb_steps.specs.declared.view.View.{View}
 use Rattle.wb_steps.specs.declared.view.Role.{Role}
 use Rattle.wb_steps.specs.declared.view.Role.TheVariants.{Owner, Copy, Drain, Spent}
-use Rattle.wb_steps.proofs.Lists.{prefix_longer}
+use Rattle.wb_steps.proofs.Lists.{prefix_trans, prefix_longer, placed-append}
 use Rattle.wb_steps.proofs.Bounds.{few_places}
 use Rattle.wb_steps.proofs.Appends.{claimed_law, bumped_law}
 use Rattle.wb_steps.proofs.Fills.{filled_law}
@@ -28,28 +28,42 @@ use Rattle.wb_steps.proofs.Numbers.{cursor_seen, limit_seen, stable_seen, fault_
 use Rattle.wb_steps.proofs.Copies.{shown_law, told_law, heard_law, founded_law, roles_apart}
 use Rattle.wb_intake.specs.declared.sight.Sight.{Sight}
 use Rattle.wb_intake.specs.declared.sight.Meeting.{Meeting}
-use Rattle.wb_intake.specs.Sights.{IsBehind, HasMet, Holds}
-use Rattle.wb_intake.specs.Plays.{Sat, IsUp, with_view, with_load, sees, claims, bumps, first_unfilled, enters, fills, takes_out, gives_back, publishes, tells, note, shown, hears, meets, gone, counting, owner}
+use Rattle.wb_intake.specs.Sights.{IsBehind, HasMet, NamesRightly, counted, Holds}
+use Rattle.wb_intake.specs.Plays.{Sat, IsUp, with_view, with_load, with_cell_load, sees, claims, bumps, first_unfilled, enters, fills, takes_out, gives_back, publishes, tells, note, shown, hears, meets, gone, counting, owner}
+use Rattle.wb_intake.proofs.Results.{placed_from}
 use Rattle.wb_intake.proofs.Lifted.{S, met_still, lift, lift_split, lift_join}
 
 -- a word that becomes what it was
 same_word : (k : Shape) (s : Intake) (i : ℕ) (views : List View) → IsLawful k record { words = s.words; homes = s.homes; views = views } → IsLawful k record { words = set s.words i (get_or s.words i 0); homes = s.homes; views = views }
 same_word k s i views law = subst (λ (ws : List ℕ). IsLawful k record { words = ws; homes = s.homes; views = views }) (sym (set-get_or s.words i 0)) law
 
+-- an owner of a state that keeps the rule names places rightly
+names : (k : Shape) (s : Intake) (law : IsLawful k s) (id : ℕ) (v : View) → get_elem? s.views id ≡ some v → NamesRightly v
+names k s law id v at role =
+    let o : Owns law.truth id v = subst (Fits law.truth id v) role (law.each_view id v at) in
+    let p = prefix_trans v.known law.truth.drained law.truth.log o.seen.known law.sound.behind in (
+      (
+        placed v.client (0 + length v.known) p.0,
+        o.mine ∙ ap (placed v.client 0) p.1 ∙ placed-append v.client 0 v.known p.0,
+        placed_from v.client (0 + length v.known) (length v.known) p.0 (omega arith),
+      ),
+      o.below,
+    )
+
 -- a look at the cursor, the limit, the stable number or the fault
 pub looks : (k : Shape) → IsShape k → (n id : ℕ) (me : Sat) (i : ℕ) → me.0.view.role ≢ Spent → i < 4 → Allows (Holds k) n id me i (λ y. y) (sees (step n i 0 0 none) me)
 looks k shape n id me zero live few = lift k n id me 0 (λ y. y) (sees (step n 0 0 0 none) me) (λ s law had wide at fits.
     let r : ℕ = get_or s.words 0 0 in let h = cursor_seen k s law id me.0.view at live r refl in
-    (with_load me.0 (seeing me.0.view 0 r) 0 r, keeps, tt, refl, same_word k s 0 (set s.views id (seeing me.0.view 0 r)) h.2, ((h.0, h.1, (let few = few_places k law.truth s.words s.homes shape law.sound in omega (arith, few, law.sound.cursor))), had, refl)))
+    (with_load me.0 (seeing me.0.view 0 r) 0 r, keeps, tt, refl, same_word k s 0 (set s.views id (seeing me.0.view 0 r)) h.2, ((h.0, h.1, (let few = few_places k law.truth s.words s.homes shape law.sound in omega (arith, few, law.sound.cursor))), had, names k s law id me.0.view at, refl)))
 looks k shape n id me (suc zero) live few = lift k n id me 1 (λ y. y) (sees (step n 1 0 0 none) me) (λ s law had wide at fits.
     let r : ℕ = get_or s.words 1 0 in let h = limit_seen k s law id me.0.view at live r refl in
-    (with_load me.0 (seeing me.0.view 1 r) 1 r, keeps, tt, refl, same_word k s 1 (set s.views id (seeing me.0.view 1 r)) h.2, ((h.0, h.1), had, refl)))
+    (with_load me.0 (seeing me.0.view 1 r) 1 r, keeps, tt, refl, same_word k s 1 (set s.views id (seeing me.0.view 1 r)) h.2, ((h.0, h.1), had, names k s law id me.0.view at, refl)))
 looks k shape n id me (suc (suc zero)) live few = lift k n id me 2 (λ y. y) (sees (step n 2 0 0 none) me) (λ s law had wide at fits.
     let r : ℕ = get_or s.words 2 0 in let h = stable_seen k s law id me.0.view at live r refl in
-    (with_load me.0 (seeing me.0.view 2 r) 2 r, keeps, tt, refl, same_word k s 2 (set s.views id (seeing me.0.view 2 r)) h.1, (h.0, had, refl)))
+    (with_load me.0 (seeing me.0.view 2 r) 2 r, keeps, tt, refl, same_word k s 2 (set s.views id (seeing me.0.view 2 r)) h.1, (h.0, had, names k s law id me.0.view at, refl)))
 looks k shape n id me (suc (suc (suc zero))) live few = lift k n id me 3 (λ y. y) (sees (step n 3 0 0 none) me) (λ s law had wide at fits.
     let r : ℕ = get_or s.words 3 0 in let h = fault_seen k s law id me.0.view at live r refl in
-    (with_load me.0 (seeing me.0.view 3 r) 3 r, keeps, tt, refl, same_word k s 3 (set s.views id (seeing me.0.view 3 r)) h.1, (h.0, had, refl)))
+    (with_load me.0 (seeing me.0.view 3 r) 3 r, keeps, tt, refl, same_word k s 3 (set s.views id (seeing me.0.view 3 r)) h.1, (h.0, had, names k s law id me.0.view at, refl)))
 looks k shape n id me (suc (suc (suc (suc i)))) live few = absurd (omega arith)
 
 -- a claim
@@ -122,14 +136,14 @@ takes_as k shape n id me i role bare size is = lift k n id me i (λ y. y) (takes
       | inl says ↦
           let says' : get_or s.words (cell_word k p) 0 ≡ p + 1 = ap (λ (x : ℕ). get_or s.words x 0) (sym is) ∙ says in
           let f = filled_next k s law id v at role bare says' in let e : HistoryEntry = f.2.0 in let few = few_places k law.truth s.words s.homes shape law.sound in (
-            with_load me.0 (Rattle.wb_steps.specs.Views.taking v e) 4 r,
+            with_cell_load me.0 (Rattle.wb_steps.specs.Views.taking v e) i r,
             takes (p % cells k) (Some e),
             f.2.2,
             refl,
             subst (λ (x : ℕ). IsLawful k record { words = set s.words x (get_or s.words x 0); homes = set s.homes (p % cells k) none; views = set s.views id (Rattle.wb_steps.specs.Views.taking v e) }) (sym is) (taken_law k s law id v e at role bare says' f.2.2),
-            ((λ _. (omega (arith, f.0, few), e, (λ z. (with_load me.0 (Rattle.wb_steps.specs.Views.taking v e) 4 r, (p % sym size z, Some e) ∷ me.1)))), λ waits. absurd (waits says)),
+            ((λ _. (omega (arith, f.0, few), e, (λ z. (with_cell_load me.0 (Rattle.wb_steps.specs.Views.taking v e) i r, (p % sym size z, Some e) ∷ me.1)))), λ waits. absurd (waits says)),
           )
-      | inr waits ↦ (with_load me.0 v 4 r, keeps, tt, refl, same_word k s i (set s.views id v) (subst (λ (vs : List View). IsLawful k record { words = s.words; homes = s.homes; views = vs }) (sym (set_again s.views id v at)) law), ((λ says. absurd (waits says)), λ _. refl))
+      | inr waits ↦ (with_cell_load me.0 v i r, keeps, tt, refl, same_word k s i (set s.views id v) (subst (λ (vs : List View). IsLawful k record { words = s.words; homes = s.homes; views = vs }) (sym (set_again s.views id v at)) law), ((λ says. absurd (waits says)), λ _. refl))
     ])
 
 -- the drain gives the cell back, which is empty
@@ -204,7 +218,7 @@ met_view v w n role h =
 
 -- what the drain knows that received a copy y of the owner's o, and then looked at the cursor and found n
 pub met_all : (d o y z w : Sight) (n : ℕ) → d.view.role ≡ Drain → y ≡ shown o → z ≡ meets d y → HasMet z → IsUp z.view 0 n → w ≡ with_load z (seeing z.view 0 n) 0 n
-    → (w.view ≡ seeing d.view 0 n) × (o.view.seen.cursor ≤ n) × (d.view.seen.cursor ≤ n) × IsBehind w.view o.view
+    → (w.view ≡ seeing d.view 0 n) × (w.loads ≡ counted d.loads 0 n) × (o.view.seen.cursor ≤ n) × (d.view.seen.cursor ≤ n) × IsBehind w.view o.view
 met_all d o y z w n role copy joined had up looked =
     let is : z ≡ meets d (shown o) = joined ∙ ap (meets d) copy in
     let b : IsBehind d.view (shown o).view = subst HasMet is had (record { drain = d.view; pass = (shown o).view }) refl in
@@ -212,6 +226,7 @@ met_all d o y z w n role copy joined had up looked =
     let same : w.view ≡ seeing d.view 0 n = ap (λ (x : Sight). x.view) looked ∙ ap (λ (x : Sight). seeing x.view 0 n) is ∙ met_view d.view (shown o).view n role b in
     let cursor = high.0 in (
       same,
+      ap (λ (x : Sight). x.loads) looked ∙ ap (λ (x : Sight). counted x.loads 0 n) is,
       omega (arith, cursor),
       omega (arith, cursor),
       subst (λ (v : View). IsBehind v o.view) (sym same) (record { known = b.known; limit = b.limit; stable = b.stable; fault = b.fault }),
@@ -225,8 +240,8 @@ fills_at k n id x me i new p j e more is role first named word next =
     (fills_as k n id (with_view x (Rattle.wb_steps.specs.Views.holding x.view p), (p % cells k, Some e) ∷ []) i new p j e [] role (subst (λ (l : List ℕ). Contains l p) (sym first) (Rattle.wb_steps.proofs.Lists.Contains-first p more)) named word next refl)
 
 -- the drain that took an entry out gives the cell back
-pub gives_at : (k : Shape) (n id : ℕ) (x : Sight) (me : Sat) (i r : ℕ) (e : HistoryEntry) → me ≡ (with_load x (Rattle.wb_steps.specs.Views.taking x.view e) 4 r, (length x.view.known % cells k, None) ∷ [])
+pub gives_at : (k : Shape) (n id : ℕ) (x : Sight) (me : Sat) (i r : ℕ) (e : HistoryEntry) → me ≡ (with_cell_load x (Rattle.wb_steps.specs.Views.taking x.view e) i r, (length x.view.known % cells k, None) ∷ [])
     → x.view.role ≡ Drain → i ≡ cell_word k (length x.view.known) → Allows (Holds k) n id me i (λ _. 0) (gives_back (step n i 0 0 none) me)
 gives_at k n id x me i r e is role word =
     subst (λ (m : Sat). Allows (Holds k) n id m i (λ _. 0) (gives_back (step n i 0 0 none) m)) (sym is)
-    (gives_as k n id (with_load x (Rattle.wb_steps.specs.Views.taking x.view e) 4 r, (length x.view.known % cells k, None) ∷ []) i [] role (λ h. Rattle.wb_steps.proofs.Phases.held-ne-none (length x.view.known) h) word refl)
+    (gives_as k n id (with_cell_load x (Rattle.wb_steps.specs.Views.taking x.view e) i r, (length x.view.known % cells k, None) ∷ []) i [] role (λ h. Rattle.wb_steps.proofs.Phases.held-ne-none (length x.view.known) h) word refl)

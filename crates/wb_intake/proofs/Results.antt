@@ -1,24 +1,24 @@
 -- What an answer says of what was named.
-use Rattle.std.proofs.Common.{◌≡◌, ◌≢◌, ◌+◌, ◌-◌, ◌*◌, ◌/◌, ◌%◌, ◌<◌, ℕ, List, [], ◌∷◌, ◌++◌, length, map, replicate, zero, suc, refl, sym, ap, ◌∙◌, ◌⊎◌, inl, inr, subst, Bool, cond, append_assoc, suc-mul, div-add-mod', arith}
+use Rattle.std.proofs.Common.{◌≡◌, ◌≢◌, ◌+◌, ◌-◌, ◌*◌, ◌/◌, ◌%◌, ◌<◌, ◌≤◌, ℕ, List, [], ◌∷◌, ◌++◌, length, map, replicate, zero, suc, refl, sym, ap, ◌∙◌, ◌⊎◌, inl, inr, subst, Bool, true, false, cond, eqb, append_assoc, suc-mul, div-add-mod', arith}
 use Rattle.std.specs.Prelude.{not}
-use Rattle.std.specs.List.{enumerate_from}
+use Rattle.std.specs.List.{All, enumerate_from}
 use Rattle.std.proofs.lemmas.Bool.{eq-eqb, ne_eqb}
 use Rattle.std.proofs.Math.Nat.{mod-lt, mul-mod_left}
-use Rattle.wb_geometry.specs.History.{Void}
-use Rattle.wb_steps.specs.Views.{filling, without}
+use Rattle.wb_steps.specs.Views.{placed, filling, without}
 use Rattle.std.specs.Prelude.{Result, Ok, Err, IfOk, IfSome, Option, Some, None, slice_get}
 use mathlib.Core.Option.{some}
 use mathlib.Core.Option as maybe
 use lib.ListN.{get_elem?}
 use Rattle.atomic_table.proofs.Lists.{at_last}
-use Rattle.wb_geometry.specs.History.{HistoryEntry}
+use Rattle.wb_geometry.specs.History.{HistoryEntry, Void, client_of}
 use Rattle.wb_steps.specs.declared.view.View.{View}
 use Rattle.atomic_table.specs.Seated.{TableId}
 use Rattle.wb_steps.specs.Views.{beginning}
 use Rattle.wb_steps.specs.declared.view.Role.TheVariants.{Owner}
 use Rattle.wb_intake.specs.Passes.{pass_name, view_of, AreNewcomers}
 use Rattle.wb_intake.specs.declared.pass.Pass.{Pass}
-use Rattle.wb_intake.specs.Belongs.{HasNamed, HasClaimed, IsOwed}
+use Rattle.wb_intake.specs.Sights.{IsLegal}
+use Rattle.wb_intake.specs.Belongs.{Saw, HasNamed, HasClaimed, IsOwed}
 
 pub if_ok : {T E : Type 0} (r : Result T E) (P Q R : T → Type 0) → ((x : T) → P x → Q x → R x) → IfOk r P → IfOk r Q → IfOk r R
 if_ok (Ok x) P Q R f a b = f x a b
@@ -43,6 +43,30 @@ size (Some x) = 1
 
 none-ne-some : (p : Pass) → None ≡ Some p → ⊥
 none-ne-some p h = let e : size None ≡ size (Some p) = ap size h in Rattle.std.proofs.Common.suc-ne-zero 0 (sym e)
+
+-- the entries of a client stand at the places from the first on
+pub placed_from : (c p q : ℕ) (xs : List HistoryEntry) → q ≤ p → All (λ m. q ≤ m.0) (placed c p xs)
+placed_from c p q [] h = λ i d inside. absurd (omega arith)
+placed_from c p q (x ∷ xs) h = one_more (eqb (client_of x) c) (placed c (p + 1) xs) (placed_from c (p + 1) q xs (omega arith))
+  where
+    both : (more : List (ℕ × HistoryEntry)) → All (λ m. q ≤ m.0) more → All (λ m. q ≤ m.0) ((p, x) ∷ more)
+    both more all zero d inside = h
+    both more all (suc i) d inside = all i d (omega (arith, inside))
+
+    one_more : (b : Bool) (more : List (ℕ × HistoryEntry)) → All (λ m. q ≤ m.0) more → All (λ m. q ≤ m.0) (cond b ((p, x) ∷ more) more)
+    one_more false more all = all
+    one_more true more all = both more all
+
+-- where a pass has only seen more, what it names is as it was
+pub legal_still : (v w : View) → Saw v w → IsLegal v → IsLegal w
+legal_still v w saw h = (
+  h.0,
+  saw.mine ∙ h.1 ∙ (λ i. placed (sym saw.client i) 0 (sym saw.known i) ++ h.0),
+  subst (λ (known : List HistoryEntry). All (λ m. length known ≤ m.0) h.0) (sym saw.known) h.2,
+)
+
+pub below_still : (v w : View) (n : ℕ) → Saw v w → w.seen.cursor ≡ n → All (λ m. m.0 < v.seen.cursor) v.mine → All (λ m. m.0 < n) w.mine
+below_still v w n saw is all = subst (λ (mine : List (ℕ × HistoryEntry)). All (λ m. m.0 < n) mine) (sym saw.mine) (λ i d inside. let h = all i d inside in omega (arith, h, is, saw.cursor))
 
 -- one pass more
 pub newcomers_push : (name : TableId) (limit n : ℕ) (passes : List Pass) (p : Pass) → length passes ≡ n → AreNewcomers name limit passes → pass_name p ≡ name → view_of p ≡ beginning Owner n limit → AreNewcomers name limit (passes ++ p ∷ [])

@@ -1,13 +1,13 @@
 -- What passes, notes and the drain know, and whose they are.
-use Rattle.std.specs.Prelude.{ℕ, ◌≡◌, ◌≢◌, ◌+◌, ◌^◌, ◌<◌, ◌≤◌, ◌-◌, max, map, replicate, List, [], ◌∷◌, ◌++◌, Option, None}
+use Rattle.std.specs.Prelude.{ℕ, ◌≡◌, ◌≢◌, ◌+◌, ◌^◌, ◌<◌, ◌≤◌, ◌-◌, max, map, replicate, List, [], ◌∷◌, ◌++◌, length, Option, None}
 use Rattle.std.specs.List.{enumerate_from}
 use mathlib.Core.Option.{some}
 use lib.ListN.{get_elem?}
 use Rattle.wb_geometry.specs.History.{HistoryEntry, Void}
 use Rattle.wb_steps.specs.Faults.{IsPartwiseAtMost}
-use Rattle.wb_steps.specs.Rule.{segment_at}
+use Rattle.wb_steps.specs.Rule.{cell_word, segment_at}
 use Rattle.wb_steps.specs.declared.shape.Shape.{Shape}
-use Rattle.wb_intake.specs.Sights.{IsLoaded}
+use Rattle.wb_intake.specs.Sights.{IsLoaded, IsCellLoaded}
 use Rattle.wb_intake.specs.declared.answers.NotFilled.{NotFilled}
 use Rattle.wb_intake.specs.declared.answers.NoClaim.{NoClaim}
 use Rattle.wb_intake.specs.declared.answers.NoClaim.TheVariants.{IdsSpent, NoRoom, Busy}
@@ -58,22 +58,32 @@ pub record HasNamed (v w : View) (p : ℕ) (e : HistoryEntry) : Type 0 where
   pub stable : w.seen.stable ≡ v.seen.stable
   pub fault : w.seen.fault ≡ v.seen.fault
 
--- why no place was claimed. Both numbers were loaded in the call
+-- Why no place was claimed, the first of three causes. Its numbers were loaded in the call, but for the one that the exchange found.
 abbrev pub IsCause : Shape → Loads → Loads → NoClaim → Type 0
 IsCause k before now (IdsSpent cursor) = (2 ^ 48 < segment_at k cursor) × IsLoaded before.cursor now.cursor cursor
-IsCause k before now (NoRoom cursor limit) = (cursor ≡ limit) × IsLoaded before.cursor now.cursor cursor × IsLoaded before.limit now.limit limit
-IsCause k before now (Busy expected found) = (expected < found) × IsLoaded before.cursor now.cursor expected
+IsCause k before now (NoRoom cursor limit) = (cursor ≡ limit) × (segment_at k cursor ≤ 2 ^ 48) × IsLoaded before.cursor now.cursor cursor × IsLoaded before.limit now.limit limit
+IsCause k before now (Busy expected found) = (expected < found) × (segment_at k expected ≤ 2 ^ 48) × (expected < now.limit.last) × IsLoaded before.cursor now.cursor expected × IsLoaded before.limit now.limit now.limit.last
 
--- why the next place was not taken: the word of its cell that was loaded is another number. The cursor was loaded too
-abbrev pub IsWaiting : Loads → Loads → NotFilled → Type 0
-IsWaiting before now r = (r.word ≢ r.place + 1) × IsLoaded before.cell now.cell r.word × IsLoaded before.cursor now.cursor r.cursor
+-- the pass has then seen the numbers that the refusal has
+abbrev pub HasLearnt : View → NoClaim → Type 0
+HasLearnt w (IdsSpent cursor) = w.seen.cursor ≡ cursor
+HasLearnt w (NoRoom cursor limit) = (w.seen.cursor ≡ cursor) × (w.seen.limit ≡ limit)
+HasLearnt w (Busy expected found) = w.seen.cursor ≡ found
 
--- the drained list grew by the entry. All else is as before, but for the cursor that was seen
+-- why the next place was not taken: the word of its cell was loaded, and is another number. The cursor was loaded too, and is no lower than the place
+abbrev pub IsWaiting : Shape → Loads → Loads → NotFilled → Type 0
+IsWaiting k before now r = (r.word ≢ r.place + 1) × IsCellLoaded before.cell now.cell (cell_word k r.place) r.word × IsLoaded before.cursor now.cursor r.cursor × (r.place ≤ r.cursor)
+
+-- the drained list grew by the entry. All else is as before, but that the cursor that was seen is above the place
 pub record HasDrained (v w : View) (e : HistoryEntry) : Type 0 where
   pub role : w.role ≡ v.role
   pub client : w.client ≡ v.client
   pub known : w.known ≡ v.known ++ e ∷ []
+  pub mine : w.mine ≡ []
+  pub unfilled : w.unfilled ≡ v.unfilled
   pub held : w.held ≡ None
+  pub told : w.told ≡ v.told
+  pub cursor : w.seen.cursor ≡ max v.seen.cursor (length v.known + 1)
   pub limit : w.seen.limit ≡ v.seen.limit
   pub stable : w.seen.stable ≡ v.seen.stable
   pub fault : w.seen.fault ≡ v.seen.fault
@@ -99,3 +109,5 @@ pub record HasBumped (v w : View) (next through : ℕ) : Type 0 where
   pub after : v.seen.cursor ≤ next
   pub cursor : w.seen.cursor ≡ max next through
   pub limit : w.seen.limit ≡ v.seen.limit
+  pub stable : w.seen.stable ≡ v.seen.stable
+  pub fault : w.seen.fault ≡ v.seen.fault

@@ -8,7 +8,7 @@ use Rattle.wb_steps.specs.Steps.{seeing}
 use Rattle.wb_steps.specs.declared.view.View.{View}
 use Rattle.wb_steps.specs.declared.view.Role.TheVariants.{Owner}
 use Rattle.wb_intake.specs.declared.sight.Sight.{Sight}
-use Rattle.wb_intake.specs.Sights.{HasMet, counted, fresh}
+use Rattle.wb_intake.specs.Sights.{HasMet, NamesRightly, counted, cell_counted, fresh}
 
 abbrev pub Sat : Type 0
 Sat = Me (Option HistoryEntry) Sight
@@ -24,6 +24,10 @@ with_view x v = record x { view = v }
 abbrev pub with_load : Sight → View → (word n : ℕ) → Sight
 with_load x v word n = record x { view = v; loads = counted x.loads word n }
 
+-- the seat with another view, by a load of the word of a cell that found n
+abbrev pub with_cell_load : Sight → View → (word n : ℕ) → Sight
+with_cell_load x v word n = record x { view = v; loads = cell_counted x.loads word n }
+
 -- A number that is seen is not below what was seen before. The cursor is at least the length of what is known, and so small that each
 -- place has an id; the limit is at least the cursor that was seen
 abbrev pub IsUp : View → (word n : ℕ) → Type 0
@@ -32,9 +36,9 @@ IsUp v (suc zero) n = (v.seen.limit ≤ n) × (v.seen.cursor ≤ n)
 IsUp v (suc (suc zero)) n = v.seen.stable ≤ n
 IsUp v (suc (suc (suc word))) n = IsPartwiseAtMost v.seen.fault (parts_of n)
 
--- a look at one of the first four words, by which a seat also learns that it had all of whom it met
+-- a look at one of the first four words, by which a seat also learns that it had all of whom it met, and an owner that it names places rightly
 abbrev pub sees : At → Sat → ℕ → Sat → Type 0
-sees st m n m' = IsUp m.0.view st.word n × HasMet m.0 × (m' ≡ (with_load m.0 (seeing m.0.view st.word n) st.word n, m.1))
+sees st m n m' = IsUp m.0.view st.word n × HasMet m.0 × NamesRightly m.0.view × (m' ≡ (with_load m.0 (seeing m.0.view st.word n) st.word n, m.1))
 
 -- a claim: the place is named for the entry where the cursor stood there, and else the cursor is seen
 abbrev pub claims : HistoryEntry → At → Sat → ℕ → Sat → Type 0
@@ -59,8 +63,8 @@ fills st m n m' = m' ≡ (with_view m.0 (filling m.0.view (st.first - 1)), rest 
 
 -- the drain finds the next place filled, whose number is so small that it has an id, and takes its entry out; or it finds another number in the word
 abbrev pub takes_out : At → Sat → ℕ → Sat → Type 0
-takes_out st m n m' = (n ≡ length m.0.view.known + 1 → (length m.0.view.known + 1 ≤ 2 ^ 55) × (e : HistoryEntry) × (m' ≡ (with_load m.0 (taking m.0.view e) 4 n, (length m.0.view.known % st.slots, Some e) ∷ m.1)))
-    × (n ≢ length m.0.view.known + 1 → m' ≡ (with_load m.0 m.0.view 4 n, m.1))
+takes_out st m n m' = (n ≡ length m.0.view.known + 1 → (length m.0.view.known + 1 ≤ 2 ^ 55) × (e : HistoryEntry) × (m' ≡ (with_cell_load m.0 (taking m.0.view e) st.word n, (length m.0.view.known % st.slots, Some e) ∷ m.1)))
+    × (n ≢ length m.0.view.known + 1 → m' ≡ (with_cell_load m.0 m.0.view st.word n, m.1))
 
 -- the drain gives the cell back
 abbrev pub gives_back : At → Sat → ℕ → Sat → Type 0

@@ -40,8 +40,8 @@ pub struct Parcel {
     pub entry: Entry,
 }
 
-/// The next place is not filled: the word of its cell that was loaded is another number than `place + 1`. The cursor was
-/// loaded after it.
+/// The next place is not filled: the word of its cell that was loaded is another number than `place + 1`. The cursor that is
+/// told was loaded too.
 #[derive(Clone, Copy, Debug, PartialEq, Eq)]
 pub struct NotFilled {
     pub place: u64,
@@ -60,6 +60,7 @@ pub struct Look {
 
 /// Places that a bump named for voids: `left` places from `next` on, which have to be filled. `through` is the end of the
 /// segment. It has to be finished.
+#[non_exhaustive]
 pub struct Voids {
     pub through: u64,
     pub next: u64,

@@ -3,7 +3,7 @@ ghost use Rattle.std.specs.Prelude.{◌≡◌, ◌≢◌, ◌+◌, ◌*◌, ◌<
 ghost use Rattle.wb_steps.specs.Rule as rule;
 ghost use Rattle.wb_steps.specs.Steps.{seeing};
 ghost use Rattle.wb_steps.specs.declared.view.Role.TheVariants.{Spent};
-ghost use Rattle.wb_intake.specs.Sights.{HasMet};
+ghost use Rattle.wb_intake.specs.Sights.{HasMet, NamesRightly};
 ghost use Rattle.wb_intake.specs.Plays.{IsUp, with_load};
 ghost use Rattle.wb_intake.specs.Belongs.{sight, IsSameSeat};
 
@@ -32,6 +32,7 @@ impl Intake {
         ensures seat { IsSameSeat seat.old seat.new }
         ensures up { IsUp (sight seat.old).view word result }
         ensures met { HasMet (sight seat.old) }
+        ensures names { NamesRightly (sight seat.old).view }
         ensures seen { sight seat.new ≡ with_load (sight seat.old) (seeing (sight seat.old).view word result) word result }
     {
         self.cells.shared.load::<Sees>(seat, word)

@@ -1,13 +1,13 @@
 //! The calls of the intake.
-ghost use Rattle.std.specs.Prelude.{◌≡◌, ◌≢◌, ◌+◌, ◌-◌, ◌%◌, ◌<◌, ◌≤◌, ◌^◌, ℕ, [], ◌∷◌, length, IfOk, IfErr, None};
+ghost use Rattle.std.specs.Prelude.{◌≡◌, ◌≢◌, ◌+◌, ◌-◌, ◌%◌, ◌<◌, ◌≤◌, ◌^◌, ℕ, [], ◌∷◌, length, All, IfOk, IfErr, None};
 ghost use Rattle.wb_geometry.specs.History.{Write};
 ghost use Rattle.wb_geometry.specs.Entering.{entered};
 ghost use Rattle.wb_steps.specs.Faults.{parts_of, IsPartwiseAtMost};
 ghost use Rattle.wb_steps.specs.Views.{telling, note_of, copy, hearing, filling};
 ghost use Rattle.wb_steps.specs.Rule as rule;
 ghost use Rattle.wb_steps.specs.Steps.{seeing, IsRoundedUp};
-ghost use Rattle.wb_intake.specs.Sights.{IsLoaded, IsBehind};
-ghost use Rattle.wb_intake.specs.Belongs.{Saw, HasNamed, HasClaimed, HasDrained, IsCause, IsWaiting, IsOwed, HasBumped};
+ghost use Rattle.wb_intake.specs.Sights.{IsLoaded, IsCellLoaded, IsBehind, IsLegal};
+ghost use Rattle.wb_intake.specs.Belongs.{Saw, HasNamed, HasClaimed, HasLearnt, HasDrained, IsCause, IsWaiting, IsOwed, HasBumped};
 ghost use Rattle.wb_intake.specs.Passes.{name_of, pass_name, drain_name, note_name, numbers_of, client_of_pass, place_of, block_of, view_of, loads_of, drain_view, drain_loads, note_view};
 
 use crate::answers::{Claim, Look, NoClaim, NotFilled, Parcel, Voids};
@@ -30,7 +30,9 @@ impl Intake {
         ensures claimed { IfOk result (λ c. (block_of c ≡ block) × HasClaimed (view_of pass.new) (place_of c) (Write (client_of_pass pass.old) block payload.now.bits payload.now.payload)) }
         ensures room { IfOk result (λ c. (rule.segment_at (numbers_of self.now) (place_of c) ≤ 2 ^ 48) × (place_of c < (view_of pass.new).seen.limit)
             × IsLoaded (loads_of pass.old).cursor (loads_of pass.new).cursor (place_of c) × IsLoaded (loads_of pass.old).limit (loads_of pass.new).limit (view_of pass.new).seen.limit) }
+        ensures others { ((loads_of pass.new).stable ≡ (loads_of pass.old).stable) × ((loads_of pass.new).fault ≡ (loads_of pass.old).fault) × ((loads_of pass.new).cell ≡ (loads_of pass.old).cell) }
         ensures saw { IfErr result (λ r. Saw (view_of pass.old) (view_of pass.new)) }
+        ensures learnt { IfErr result (λ r. HasLearnt (view_of pass.new) r) }
         ensures cause { IfErr result (λ r. IsCause (numbers_of self.now) (loads_of pass.old) (loads_of pass.new) r) }
     {
         self.claim_place(&mut pass.seat, pass.client, block, payload)
@@ -41,6 +43,7 @@ impl Intake {
         requires own { pass_name pass.old ≡ name_of self.now }
         requires claimed { HasClaimed (view_of pass.old) (place_of claim) (Write (client_of_pass pass.old) (block_of claim) payload.value.bits payload.value.payload) }
         ensures own { (pass_name pass.new ≡ pass_name pass.old) × (client_of_pass pass.new ≡ client_of_pass pass.old) }
+        ensures loads { loads_of pass.new ≡ loads_of pass.old }
         ensures filled { view_of pass.new ≡ filling (view_of pass.old) (place_of claim) }
         ensures free { (view_of pass.new).unfilled ≡ [] }
     {
@@ -59,8 +62,10 @@ impl Intake {
         ensures own { drain_name drain.new ≡ drain_name drain.old }
         ensures taken { IfOk result (λ p. (p.place ≡ length (drain_view drain.old).known) × HasDrained (drain_view drain.old) (drain_view drain.new) (entered p.entry)) }
         ensures saw { IfErr result (λ r. (drain_view drain.new ≡ seeing (drain_view drain.old) 0 r.cursor) × ((drain_view drain.old).seen.cursor ≤ r.cursor)) }
+        ensures loaded { IfOk result (λ p. IsCellLoaded (drain_loads drain.old).cell (drain_loads drain.new).cell (rule.cell_word (numbers_of self.now) p.place) (p.place + 1) × ((drain_loads drain.new).cursor ≡ (drain_loads drain.old).cursor)) }
+        ensures others { ((drain_loads drain.new).limit ≡ (drain_loads drain.old).limit) × ((drain_loads drain.new).stable ≡ (drain_loads drain.old).stable) × ((drain_loads drain.new).fault ≡ (drain_loads drain.old).fault) }
         ensures waits { IfErr result (λ r. (r.place ≡ length (drain_view drain.old).known)
-            × IsWaiting (drain_loads drain.old) (drain_loads drain.new) r) }
+            × IsWaiting (numbers_of self.now) (drain_loads drain.old) (drain_loads drain.new) r) }
     {
         let place = drain.drained;
         let item = self.take_next(&mut drain.seat, place)?;
@@ -79,6 +84,7 @@ impl Intake {
         requires up { (drain_view drain.old).seen.limit ≤ limit }
         requires room { limit ≤ length (drain_view drain.old).known + rule.cells (numbers_of self.now) }
         ensures own { drain_name drain.new ≡ drain_name drain.old }
+        ensures loads { drain_loads drain.new ≡ drain_loads drain.old }
         ensures raised { drain_view drain.new ≡ seeing (drain_view drain.old) 1 limit }
     {
         self.set_limit(&mut drain.seat, limit);
@@ -91,6 +97,7 @@ impl Intake {
         requires up { (drain_view drain.old).seen.stable ≤ stable }
         requires done { stable ≤ length (drain_view drain.old).known }
         ensures own { drain_name drain.new ≡ drain_name drain.old }
+        ensures loads { drain_loads drain.new ≡ drain_loads drain.old }
         ensures published { drain_view drain.new ≡ seeing (drain_view drain.old) 2 stable }
     {
         self.set_stable(&mut drain.seat, stable);
@@ -101,6 +108,7 @@ impl Intake {
         requires own { drain_name drain.old ≡ name_of self.now }
         requires up { IsPartwiseAtMost (drain_view drain.old).seen.fault (parts_of fault) }
         ensures own { drain_name drain.new ≡ drain_name drain.old }
+        ensures loads { drain_loads drain.new ≡ drain_loads drain.old }
         ensures published { drain_view drain.new ≡ seeing (drain_view drain.old) 3 fault }
     {
         self.set_fault(&mut drain.seat, fault);
@@ -112,6 +120,7 @@ impl Intake {
         requires own { pass_name pass.old ≡ name_of self.now }
         requires few { length (view_of pass.old).told < 2 ^ 64 - 1 }
         ensures own { (pass_name pass.new ≡ pass_name pass.old) × (client_of_pass pass.new ≡ client_of_pass pass.old) }
+        ensures loads { loads_of pass.new ≡ loads_of pass.old }
         ensures told { view_of pass.new ≡ telling (view_of pass.old) }
         ensures note { (note_name result ≡ pass_name pass.old) × (note_view result ≡ note_of (view_of pass.old)) }
     {
@@ -129,6 +138,7 @@ impl Intake {
     pub fn tell_drained(&self, drain: &mut Drain) -> Note
         requires own { drain_name drain.old ≡ name_of self.now }
         ensures own { drain_name drain.new ≡ drain_name drain.old }
+        ensures loads { drain_loads drain.new ≡ drain_loads drain.old }
         ensures same { drain_view drain.new ≡ drain_view drain.old }
         ensures note { (note_name result ≡ drain_name drain.old) × (note_view result ≡ copy (drain_view drain.old) []) }
     {
@@ -144,6 +154,7 @@ impl Intake {
     pub fn hear(&self, pass: &mut Pass, note: Note)
         requires own { (pass_name pass.old ≡ name_of self.now) × (note_name note ≡ name_of self.now) }
         ensures own { (pass_name pass.new ≡ pass_name pass.old) × (client_of_pass pass.new ≡ client_of_pass pass.old) }
+        ensures loads { loads_of pass.new ≡ loads_of pass.old }
         ensures heard { view_of pass.new ≡ hearing (view_of pass.old) (note_view note) }
     {
         let Note {
@@ -159,18 +170,23 @@ impl Intake {
     pub fn meet(&self, pass: &mut Pass, drain: &mut Drain)
         requires own { (pass_name pass.old ≡ name_of self.now) × (drain_name drain.old ≡ name_of self.now) }
         ensures own { (pass_name pass.new ≡ pass_name pass.old) × (client_of_pass pass.new ≡ client_of_pass pass.old) × (drain_name drain.new ≡ drain_name drain.old) }
-        ensures same { view_of pass.new ≡ view_of pass.old }
-        ensures looks { (cursor : ℕ) × (drain_view drain.new ≡ seeing (drain_view drain.old) 0 cursor) × ((view_of pass.old).seen.cursor ≤ cursor) × ((drain_view drain.old).seen.cursor ≤ cursor) }
+        ensures same { (view_of pass.new ≡ view_of pass.old) × (loads_of pass.new ≡ loads_of pass.old) }
+        ensures others { ((drain_loads drain.new).limit ≡ (drain_loads drain.old).limit) × ((drain_loads drain.new).stable ≡ (drain_loads drain.old).stable) × ((drain_loads drain.new).fault ≡ (drain_loads drain.old).fault) × ((drain_loads drain.new).cell ≡ (drain_loads drain.old).cell) }
+        ensures looks { (cursor : ℕ) × IsLoaded (drain_loads drain.old).cursor (drain_loads drain.new).cursor cursor × (drain_view drain.new ≡ seeing (drain_view drain.old) 0 cursor) × ((view_of pass.old).seen.cursor ≤ cursor) × ((drain_view drain.old).seen.cursor ≤ cursor) }
         ensures behind { IsBehind (drain_view drain.new) (view_of pass.new) }
     {
         self.meet_seats(&mut pass.seat, &mut drain.seat);
     }
 
-    /// Looks at the cursor, the limit, the stable number and the fault, by one load each.
+    /// Looks at the cursor, the limit, the stable number and the fault, by one load each. It also shows that what the pass
+    /// names is what its client has in what the pass knows, and places behind that, all below the cursor.
     pub fn look(&self, pass: &mut Pass) -> Look
         requires own { pass_name pass.old ≡ name_of self.now }
         ensures own { (pass_name pass.new ≡ pass_name pass.old) × (client_of_pass pass.new ≡ client_of_pass pass.old) }
         ensures saw { Saw (view_of pass.old) (view_of pass.new) }
+        ensures others { (loads_of pass.new).cell ≡ (loads_of pass.old).cell }
+        ensures legal { IsLegal (view_of pass.new) }
+        ensures below { All (λ m. m.0 < result.cursor) (view_of pass.new).mine }
         ensures cursor { IsLoaded (loads_of pass.old).cursor (loads_of pass.new).cursor result.cursor × ((view_of pass.new).seen.cursor ≡ result.cursor) }
         ensures limit { IsLoaded (loads_of pass.old).limit (loads_of pass.new).limit result.limit × ((view_of pass.new).seen.limit ≡ result.limit) }
         ensures stable { IsLoaded (loads_of pass.old).stable (loads_of pass.new).stable result.stable × ((view_of pass.new).seen.stable ≡ result.stable) }
@@ -184,7 +200,8 @@ impl Intake {
         requires own { pass_name pass.old ≡ name_of self.now }
         requires free { (view_of pass.old).unfilled ≡ [] }
         ensures own { (pass_name pass.new ≡ pass_name pass.old) × (client_of_pass pass.new ≡ client_of_pass pass.old) }
-        ensures through { (cursor : ℕ) × IsLoaded (loads_of pass.old).cursor (loads_of pass.new).cursor cursor × IsRoundedUp (numbers_of self.now).places cursor result.through }
+        ensures through { (cursor : ℕ) × IsLoaded (loads_of pass.old).cursor (loads_of pass.new).cursor cursor × IsRoundedUp (numbers_of self.now).places cursor result.through × (cursor ≤ result.next) }
+        ensures others { ((loads_of pass.new).limit ≡ (loads_of pass.old).limit) × ((loads_of pass.new).stable ≡ (loads_of pass.old).stable) × ((loads_of pass.new).fault ≡ (loads_of pass.old).fault) × ((loads_of pass.new).cell ≡ (loads_of pass.old).cell) }
         ensures bumped { HasBumped (view_of pass.old) (view_of pass.new) result.next result.through }
         ensures owed { IsOwed (view_of pass.new) (client_of_pass pass.old) result.next result.left }
         ensures left { result.left ≡ result.through - result.next }
@@ -203,6 +220,7 @@ impl Intake {
         requires owed { IsOwed (view_of pass.old) (client_of_pass pass.old) voids.old.next voids.old.left }
         requires some { 1 ≤ voids.old.left }
         ensures own { (pass_name pass.new ≡ pass_name pass.old) × (client_of_pass pass.new ≡ client_of_pass pass.old) }
+        ensures loads { loads_of pass.new ≡ loads_of pass.old }
         ensures filled { view_of pass.new ≡ filling (view_of pass.old) voids.old.next }
         ensures owed { IsOwed (view_of pass.new) (client_of_pass pass.old) voids.new.next voids.new.left }
         ensures left { (voids.new.next ≡ voids.old.next + 1) × (voids.new.left + 1 ≡ voids.old.left) × (voids.new.through ≡ voids.old.through) }

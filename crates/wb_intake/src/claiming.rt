@@ -4,7 +4,7 @@ ghost use Rattle.wb_geometry.specs.History.{Write};
 ghost use Rattle.wb_steps.specs.Rule as rule;
 ghost use Rattle.wb_steps.specs.declared.view.Role.TheVariants.{Owner};
 ghost use Rattle.wb_intake.specs.Sights.{IsLoaded};
-ghost use Rattle.wb_intake.specs.Belongs.{sight, IsSameSeat, Saw, HasNamed, IsCause};
+ghost use Rattle.wb_intake.specs.Belongs.{sight, IsSameSeat, Saw, HasNamed, HasLearnt, IsCause};
 
 use crate::answers::{Claim, NoClaim};
 use crate::board::Intake;
@@ -33,7 +33,9 @@ impl Intake {
         ensures block { IfOk result (λ c. c.block ≡ block) }
         ensures room { IfOk result (λ c. (rule.segment_at self.now.shape c.place ≤ 2 ^ 48) × (c.place < (sight seat.new).view.seen.limit)
             × IsLoaded (sight seat.old).loads.cursor (sight seat.new).loads.cursor c.place × IsLoaded (sight seat.old).loads.limit (sight seat.new).loads.limit (sight seat.new).view.seen.limit) }
+        ensures others { ((sight seat.new).loads.stable ≡ (sight seat.old).loads.stable) × ((sight seat.new).loads.fault ≡ (sight seat.old).loads.fault) × ((sight seat.new).loads.cell ≡ (sight seat.old).loads.cell) }
         ensures saw { IfErr result (λ r. Saw (sight seat.old).view (sight seat.new).view) }
+        ensures learnt { IfErr result (λ r. HasLearnt (sight seat.new).view r) }
         ensures cause { IfErr result (λ r. IsCause self.now.shape (sight seat.old).loads (sight seat.new).loads r) }
     {
         let cursor = self.load(seat, 0);

@@ -19,7 +19,7 @@ pub use answers::{Claim, Look, NoClaim, NotFilled, Parcel, Voids};
 pub use board::Intake;
 pub use named::Named;
 pub use pass::{Drain, Note, Pass};
-pub use sight::{Load, Loads, Meeting, Sight};
+pub use sight::{CellLoad, Load, Loads, Meeting, Sight};
 pub use table::{Cells, Naming, Place, Rules};
 
 #[cfg(test)]

@@ -7,7 +7,7 @@ ghost use Rattle.wb_steps.specs.Views.{naming};
 ghost use Rattle.wb_steps.specs.Rule as rule;
 ghost use Rattle.wb_steps.specs.Steps.{IsRoundedUp};
 ghost use Rattle.wb_steps.specs.declared.view.Role.TheVariants.{Owner, Spent};
-ghost use Rattle.wb_intake.specs.Sights.{IsLoaded};
+ghost use Rattle.wb_intake.specs.Sights.{IsLoaded, NamesRightly};
 ghost use Rattle.wb_intake.specs.Belongs.{sight, IsSameSeat, Saw, HasBumped, IsOwed};
 
 use crate::answers::Look;
@@ -21,6 +21,8 @@ impl Intake {
         requires live { (sight seat.old).view.role ≢ Spent }
         ensures seat { IsSameSeat seat.old seat.new }
         ensures saw { Saw (sight seat.old).view (sight seat.new).view }
+        ensures names { NamesRightly (sight seat.old).view }
+        ensures others { (sight seat.new).loads.cell ≡ (sight seat.old).loads.cell }
         ensures cursor { IsLoaded (sight seat.old).loads.cursor (sight seat.new).loads.cursor result.cursor × ((sight seat.new).view.seen.cursor ≡ result.cursor) }
         ensures limit { IsLoaded (sight seat.old).loads.limit (sight seat.new).loads.limit result.limit × ((sight seat.new).view.seen.limit ≡ result.limit) }
         ensures stable { IsLoaded (sight seat.old).loads.stable (sight seat.new).loads.stable result.stable × ((sight seat.new).view.seen.stable ≡ result.stable) }
@@ -57,7 +59,8 @@ impl Intake {
         requires own { seat.old.table_id ≡ self.now.cells.shared.table_id }
         requires owner { ((sight seat.old).view.role ≡ Owner) × ((sight seat.old).view.unfilled ≡ []) }
         ensures seat { IsSameSeat seat.old seat.new }
-        ensures through { (cursor : ℕ) × IsLoaded (sight seat.old).loads.cursor (sight seat.new).loads.cursor cursor × IsRoundedUp self.now.shape.places cursor result.0 }
+        ensures through { (cursor : ℕ) × IsLoaded (sight seat.old).loads.cursor (sight seat.new).loads.cursor cursor × IsRoundedUp self.now.shape.places cursor result.0 × (cursor ≤ result.1) }
+        ensures others { ((sight seat.new).loads.limit ≡ (sight seat.old).loads.limit) × ((sight seat.new).loads.stable ≡ (sight seat.old).loads.stable) × ((sight seat.new).loads.fault ≡ (sight seat.old).loads.fault) × ((sight seat.new).loads.cell ≡ (sight seat.old).loads.cell) }
         ensures bumped { HasBumped (sight seat.old).view (sight seat.new).view result.1 result.0 }
         ensures owed { IsOwed (sight seat.new).view (sight seat.old).view.client result.1 (result.0 - result.1) }
         ensures fits { result.0 < 2 ^ 56 }

@@ -2,7 +2,7 @@
 ghost use Rattle.std.specs.Prelude.{◌≡◌, ◌≢◌, ◌≤◌, ℕ};
 ghost use Rattle.wb_steps.specs.Steps.{seeing};
 ghost use Rattle.wb_steps.specs.declared.view.Role.TheVariants.{Owner, Drain};
-ghost use Rattle.wb_intake.specs.Sights.{IsBehind};
+ghost use Rattle.wb_intake.specs.Sights.{IsBehind, IsLoaded};
 ghost use Rattle.wb_intake.specs.Belongs.{sight, IsSameSeat};
 
 use crate::board::Intake;
@@ -16,7 +16,8 @@ impl Intake {
         requires drain { (sight drain.old).view.role ≡ Drain }
         ensures seats { IsSameSeat owner.old owner.new × IsSameSeat drain.old drain.new }
         ensures owner { sight owner.new ≡ sight owner.old }
-        ensures looks { (cursor : ℕ) × ((sight drain.new).view ≡ seeing (sight drain.old).view 0 cursor) × ((sight owner.old).view.seen.cursor ≤ cursor) × ((sight drain.old).view.seen.cursor ≤ cursor) }
+        ensures others { ((sight drain.new).loads.limit ≡ (sight drain.old).loads.limit) × ((sight drain.new).loads.stable ≡ (sight drain.old).loads.stable) × ((sight drain.new).loads.fault ≡ (sight drain.old).loads.fault) × ((sight drain.new).loads.cell ≡ (sight drain.old).loads.cell) }
+        ensures looks { (cursor : ℕ) × IsLoaded (sight drain.old).loads.cursor (sight drain.new).loads.cursor cursor × ((sight drain.new).view ≡ seeing (sight drain.old).view 0 cursor) × ((sight owner.old).view.seen.cursor ≤ cursor) × ((sight drain.old).view.seen.cursor ≤ cursor) }
         ensures behind { IsBehind (sight drain.new).view (sight owner.old).view }
     {
         let copy = self.cells.shared.split_seat::<Shows>(owner);

@@ -9,6 +9,14 @@ pub struct Load {
     pub last: u64,
 }
 
+/// How many loads of words of cells a seat made, which word the last of them was of, and the number that it found.
+#[derive(Drop)]
+pub struct CellLoad {
+    pub count: u64,
+    pub word: u64,
+    pub last: u64,
+}
+
 /// The loads that a seat made of the cursor, the limit, the stable number, the fault, and words of cells.
 #[derive(Drop)]
 pub struct Loads {
@@ -16,7 +24,7 @@ pub struct Loads {
     pub limit: Load,
     pub stable: Load,
     pub fault: Load,
-    pub cell: Load,
+    pub cell: CellLoad,
 }
 
 /// What the drain knew, and what it received, as it last met a pass.

@@ -8,7 +8,7 @@ ghost use Rattle.wb_steps.specs.Views.{naming, filling, taking, draining};
 ghost use Rattle.wb_steps.specs.Rule as rule;
 ghost use Rattle.wb_steps.specs.Steps.{seeing};
 ghost use Rattle.wb_steps.specs.declared.view.Role.TheVariants.{Owner, Drain, Spent};
-ghost use Rattle.wb_intake.specs.Plays.{with_view, with_load};
+ghost use Rattle.wb_intake.specs.Plays.{with_view, with_cell_load};
 ghost use Rattle.wb_intake.specs.Belongs.{sight, IsSameSeat};
 
 use crate::board::{CELLS, Intake};
@@ -127,8 +127,8 @@ impl Intake {
         requires few { place ≤ 2 ^ 55 }
         ensures seat { IsSameSeat seat.old seat.new }
         ensures few { IfSome result.1 (λ e. place + 1 ≤ 2 ^ 55) }
-        ensures taken { IfSome result.1 (λ e. sight seat.new ≡ with_load (sight seat.old) (draining (taking (sight seat.old).view e)) 4 (place + 1)) }
-        ensures waits { IfNone result.1 ((result.0 ≢ place + 1) × (sight seat.new ≡ with_load (sight seat.old) (sight seat.old).view 4 result.0)) }
+        ensures taken { IfSome result.1 (λ e. sight seat.new ≡ with_cell_load (sight seat.old) (draining (taking (sight seat.old).view e)) (rule.cell_word self.now.shape place) (place + 1)) }
+        ensures waits { IfNone result.1 ((result.0 ≢ place + 1) × (sight seat.new ≡ with_cell_load (sight seat.old) (sight seat.old).view (rule.cell_word self.now.shape place) result.0)) }
     {
         let cell = self.cell_of(place);
         let found = self.cells.shared.load::<TakesOut>(seat, CELLS + cell);

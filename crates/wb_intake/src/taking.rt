@@ -1,7 +1,9 @@
 //! Taking entries out.
 ghost use Rattle.std.specs.Prelude.{◌≡◌, ◌≢◌, ◌+◌, ◌<◌, ◌≤◌, ◌^◌, [], length, IfOk, IfErr, None};
+ghost use Rattle.wb_steps.specs.Rule as rule;
 ghost use Rattle.wb_steps.specs.Steps.{seeing};
 ghost use Rattle.wb_steps.specs.declared.view.Role.TheVariants.{Drain};
+ghost use Rattle.wb_intake.specs.Sights.{IsCellLoaded};
 ghost use Rattle.wb_intake.specs.Belongs.{sight, IsSameSeat, HasDrained, IsWaiting};
 
 use crate::answers::NotFilled;
@@ -19,8 +21,10 @@ impl Intake {
         ensures seat { IsSameSeat seat.old seat.new }
         ensures taken { IfOk result (λ e. HasDrained (sight seat.old).view (sight seat.new).view e) }
         ensures few { IfOk result (λ e. place + 1 ≤ 2 ^ 55) }
+        ensures loaded { IfOk result (λ e. IsCellLoaded (sight seat.old).loads.cell (sight seat.new).loads.cell (rule.cell_word self.now.shape place) (place + 1) × ((sight seat.new).loads.cursor ≡ (sight seat.old).loads.cursor)) }
+        ensures others { ((sight seat.new).loads.limit ≡ (sight seat.old).loads.limit) × ((sight seat.new).loads.stable ≡ (sight seat.old).loads.stable) × ((sight seat.new).loads.fault ≡ (sight seat.old).loads.fault) }
         ensures saw { IfErr result (λ r. ((sight seat.new).view ≡ seeing (sight seat.old).view 0 r.cursor) × ((sight seat.old).view.seen.cursor ≤ r.cursor)) }
-        ensures waits { IfErr result (λ r. (r.place ≡ place) × IsWaiting (sight seat.old).loads (sight seat.new).loads r) }
+        ensures waits { IfErr result (λ r. (r.place ≡ place) × IsWaiting self.now.shape (sight seat.old).loads (sight seat.new).loads r) }
     {
         match self.take_out(seat, place) {
             (_, Some(item)) => Ok(item),

@@ -18,7 +18,7 @@ use Rattle.wb_steps.specs.declared.view.Role.{Role}
 use Rattle.wb_steps.specs.declared.view.Role.TheVariants.{Owner, Copy, Drain, Spent}
 use Rattle.wb_steps.proofs.Lists.{prefix_same, prefix_more, prefix_length, prefix_both, prefix_longer, longer_other, placed-others}
 use Rattle.wb_steps.proofs.Phases.{held-ne-none}
-use Rattle.wb_steps.proofs.Fitting.{Turns, seats_turn, seats_sound, turns_same, learned, clients_still, views_still}
+use Rattle.wb_steps.proofs.Fitting.{Turns, seats_turn, seats_sound, turns_same, learned, clients_still, views_still, seat_more, drain_still}
 use Rattle.wb_steps.proofs.Cells.{inside_of, at_append, All_at, there}
 use Rattle.wb_steps.proofs.Numbers.{Between, seen_of, parts_equal}
 
@@ -67,6 +67,7 @@ module _ (k : Shape) (s : Intake) (law : IsLawful k s) (u : Truth) (id : ℕ) (v
           ]
           | inr late ↦ let n = new c late h in (x, ap (get_elem? (set s.views id w ++ x ∷ [])) n.2 ∙ at_last (set s.views id w) x (length s.views) long, n.0, n.1)
         ];
+        drained_by = seat_more (λ (y : View). y.role ≡ Drain) (set s.views id w) u.drain x (drain_still law.truth u s.views id v w at role r.drain law.drained_by);
         each_view = λ j y h. elim (at_append (set s.views id w) (x ∷ []) j y h) [
           | inl old ↦ views_still k s law u id v w r fits j y old
           | inr last ↦ let z = only last.0 y last.2 in subst (λ (q : View). Fits u j q q.role) z.1 (subst (λ (i : ℕ). Fits u i x x.role) (let g : length s.views ≡ j = omega (arith, last.1, long, z.0) in g) more)
@@ -221,6 +222,8 @@ spent_law k s law j w at role = record {
   sound = law.sound;
   each_client = λ c h. let was = law.each_client c h in
       (was.0, set_else s.views j (law.truth.seat c) spent (λ e. owner-ne-copy (sym was.2 ∙ ap (λ (y : View). y.role) (some-injective was.0 w (sym was.1 ∙ ap (get_elem? s.views) e ∙ at)) ∙ role)) ∙ was.1, was.2, was.3);
+  drained_by = let d = law.drained_by in
+      (d.0, set_else s.views j law.truth.drain spent (λ e. roles_apart Copy Drain (λ n. omega arith) (sym role ∙ ap (λ (y : View). y.role) (some-injective w d.0 (sym at ∙ ap (get_elem? s.views) (sym e) ∙ d.1)) ∙ d.2)) ∙ d.1, d.2);
   each_view = λ i x h. elim (at_set s.views j i spent x h) [
     | inl here ↦ subst (λ (y : View). Fits law.truth i y y.role) here.1 tt
     | inr there ↦ law.each_view i x there.1

@@ -1,15 +1,15 @@
 -- What becomes of the views where one of them, or what they are compared with, changes.
-use Rattle.std.proofs.Common.{◌≡◌, ◌≢◌, ℕ, zero, suc, ◌<◌, ◌≤◌, List, [], ◌∷◌, length, set, sym, ap, refl, ◌∙◌, subst, inl, inr, arith}
+use Rattle.std.proofs.Common.{◌≡◌, ◌≢◌, ℕ, zero, suc, ◌<◌, ◌≤◌, List, [], ◌∷◌, ◌++◌, length, set, sym, ap, refl, ◌∙◌, subst, inl, inr, arith}
 use Rattle.std.specs.List.{All}
 use Rattle.std.proofs.lemmas.Bool.{cases_eq}
 use mathlib.Core.Option.{some, none}
 use mathlib.Core.Option as maybe
 use lib.ListN.{get_elem?}
-use Rattle.atomic_table.proofs.Lists.{at_set, set_here, set_else}
+use Rattle.atomic_table.proofs.Lists.{at_set, set_here, set_else, at_longer}
 use Rattle.wb_steps.specs.Faults.{IsPartwiseAtMost}
 use Rattle.wb_steps.specs.Views.{IsPrefix, placed}
 use Rattle.wb_geometry.specs.History.{HistoryEntry, client_of}
-use Rattle.wb_steps.specs.Rule.{Intake, Home, Phase, taken, holder, Truth, HasSeen, Owns, Drains, Fits, IsOwned, IsSound, IsLawful}
+use Rattle.wb_steps.specs.Rule.{Intake, Home, Phase, taken, holder, Truth, HasSeen, Owns, Drains, Fits, IsOwned, IsDrainAt, IsSound, IsLawful}
 use Rattle.wb_steps.specs.declared.shape.Shape.{Shape}
 use Rattle.wb_steps.specs.declared.view.Faults.{Faults}
 use Rattle.wb_steps.specs.declared.view.View.{View}
@@ -195,6 +195,23 @@ inside_of [] i x e = absurd (maybe.some-ne-none x (sym e))
 inside_of (y ∷ ys) zero x e = omega arith
 inside_of (y ∷ ys) (suc i) x e = let h = inside_of ys i x e in omega (arith, h)
 
+-- the view of this seat is such a one
+abbrev pub IsSeat : (View → Type 0) → List View → ℕ → Type 0
+IsSeat P views j = (v : View) × (get_elem? views j ≡ some v) × P v
+
+pub seat_set : (P : View → Type 0) (views : List View) (id j : ℕ) (v w : View) → get_elem? views id ≡ some v → (P v → P w) → IsSeat P views j → IsSeat P (set views id w) j
+seat_set P views id j v w at keeps d = elim (cases_eq j id) [
+  | inl is ↦ (w, ap (get_elem? (set views id w)) is ∙ set_here views id w (inside_of views id v at), keeps (subst P (sym (maybe.some-injective v d.0 (sym at ∙ ap (get_elem? views) (sym is) ∙ d.1))) d.2))
+  | inr other ↦ (d.0, set_else views id j w other ∙ d.1, d.2)
+]
+
+pub seat_more : (P : View → Type 0) (views : List View) (j : ℕ) (x : View) → IsSeat P views j → IsSeat P (views ++ x ∷ []) j
+seat_more P views j x d = (d.0, at_longer views (x ∷ []) j d.0 d.1, d.2)
+
+-- where the seat id steps, the drain stays where it is
+pub drain_still : (t u : Truth) (views : List View) (id : ℕ) (v w : View) → get_elem? views id ≡ some v → w.role ≡ v.role → u.drain ≡ t.drain → IsDrainAt views t.drain → IsDrainAt (set views id w) u.drain
+drain_still t u views id v w at role same d = subst (IsDrainAt (set views id w)) (sym same) (seat_set (λ (x : View). x.role ≡ Drain) views id t.drain v w at (λ e. role ∙ e) d)
+
 -- The seat id steps, and the words and the cells become these.
 pub moved : (k : Shape) (s : Intake) (law : IsLawful k s) (u : Truth) (id : ℕ) (v w : View) (words : List ℕ) (homes : List Home)
     → get_elem? s.views id ≡ some v → w.role ≡ v.role → w.client ≡ v.client → u.clients ≡ law.truth.clients
@@ -204,6 +221,7 @@ moved k s law u id v w words homes at role client clients r sound fits = record 
   truth = u;
   sound = sound;
   each_client = λ c h. clients_still k s law u id v w at role client (inside_of s.views id v at) r c (omega (arith, h, clients));
+  drained_by = drain_still law.truth u s.views id v w at role r.drain law.drained_by;
   each_view = views_still k s law u id v w r fits;
 }
 

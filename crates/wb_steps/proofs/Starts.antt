@@ -9,7 +9,7 @@ use lib.ListN.{get_elem?}
 use Rattle.atomic_table.proofs.Lists.{at_longer, at_last}
 use Rattle.wb_steps.specs.Faults.{parts_of}
 use Rattle.wb_steps.specs.Views.{beginning}
-use Rattle.wb_steps.specs.Rule.{cells, free, Truth, Owns, Drains, Fits, IsSound, IsLawful}
+use Rattle.wb_steps.specs.Rule.{IsOwned, cells, free, Truth, Owns, Drains, Fits, IsSound, IsLawful}
 use Rattle.wb_steps.specs.Steps.{owners, start}
 use Rattle.wb_steps.specs.declared.shape.Shape.{Shape}
 use Rattle.wb_steps.specs.declared.view.View.{View}
@@ -96,12 +96,16 @@ owner_at (suc n) limit c h = elim (cases_eq c n) [
 pub drain_at : (n limit : ℕ) → get_elem? (owners n limit ++ beginning Drain n limit ∷ []) n ≡ some (beginning Drain n limit)
 drain_at n limit = at_last (owners n limit) (beginning Drain n limit) n (length-owners n limit)
 
+pub owned_at : (n limit c : ℕ) → c < n → IsOwned (owners n limit ++ beginning Drain n limit ∷ []) (λ j. j) c
+owned_at n limit c h = (beginning Owner c limit, at_longer (owners n limit) (beginning Drain n limit ∷ []) c (beginning Owner c limit) (owner_at n limit c h), refl, refl)
+
 -- the machine at the start
 pub starts : (k : Shape) (clients : ℕ) → 0 < cells k → IsLawful k (start k clients)
 starts k clients pos = record {
   truth = first_truth k clients (λ c. c) clients;
   sound = first_sound k clients (λ c. c) clients pos;
-  each_client = λ c h. (beginning Owner c (cells k), at_longer (owners clients (cells k)) (beginning Drain clients (cells k) ∷ []) c (beginning Owner c (cells k)) (owner_at clients (cells k) c h), refl, refl);
+  each_client = owned_at clients (cells k);
+  drained_by = (beginning Drain clients (cells k), drain_at clients (cells k), refl);
   each_view = λ j v h. elim (at_append (owners clients (cells k)) (beginning Drain clients (cells k) ∷ []) j v h) [
     | inl old ↦ let n = length-owners clients (cells k) in let inside : j < clients = (let i = inside_of (owners clients (cells k)) j v old in omega (arith, i, n)) in
         subst (λ (x : View). Fits (first_truth k clients (λ c. c) clients) j x x.role) (some-injective (beginning Owner j (cells k)) v (sym (owner_at clients (cells k) j inside) ∙ old)) (first_owner k clients (λ c. c) clients j inside)

@@ -1,15 +1,13 @@
 -- The state that the parts of a machine stand for.
 use Rattle.std.specs.Prelude.{ℕ, zero, suc, ◌≡◌, ◌+◌, ◌^◌, ◌<◌, List, [], ◌∷◌, map, slice_index}
 use mathlib.Core.Option.{some, none}
-use lib.ListN.{get_elem?}
 use Rattle.wb_geometry.specs.History.{HistoryEntry}
-use Rattle.wb_steps.specs.Rule.{Intake, Home, IsShape, IsLawful}
+use Rattle.wb_steps.specs.Rule.{Intake, Home, IsShape, IsOwned, IsDrainAt, IsLawful}
 use Rattle.wb_steps.specs.Steps.{effect, word_of}
 use Rattle.wb_steps.specs.declared.shape.Shape.{Shape}
 use Rattle.wb_steps.specs.declared.steps.Kind.{Kind}
 use Rattle.wb_steps.specs.declared.steps.Kind.TheVariants as kind
 use Rattle.wb_steps.specs.declared.view.View.{View}
-use Rattle.wb_steps.specs.declared.view.Role.TheVariants.{Drain}
 use Rattle.wb_steps.specs.declared.parts.Cell.{Cell}
 use Rattle.wb_steps.specs.declared.parts.Cell.TheVariants as cell
 use Rattle.wb_steps.specs.declared.parts.Parts.{Parts}
@@ -48,11 +46,12 @@ pub record Standing : Type 0 where
   pub clients : ℕ
   pub state : Intake
 
--- what holds of each machine: its numbers are in their ranges, its state keeps the rule, and the drain is the seat behind the owners
+-- what holds of each machine: its numbers are in their ranges, its state keeps the rule, the first seats are the owners of its clients, in order, and the drain is the seat behind them
 pub record IsStanding (m : Standing) : Type 0 where
   pub shape : IsShape m.shape
   pub lawful : IsLawful m.shape m.state
-  pub drain : (v : View) × (get_elem? m.state.views m.clients ≡ some v) × (v.role ≡ Drain)
+  pub owners : (c : ℕ) → c < m.clients → IsOwned m.state.views (λ j. j) c
+  pub drain : IsDrainAt m.state.views m.clients
 
 -- what the drain has drained
 abbrev pub known_at : List View → ℕ → List HistoryEntry

@@ -143,6 +143,10 @@ module _ (t : Truth) (j : ℕ) (v : View) where
 abbrev pub IsOwned : List View → (ℕ → ℕ) → ℕ → Type 0
 IsOwned views seat client = (v : View) × (get_elem? views (seat client) ≡ some v) × (v.role ≡ Owner) × (v.client ≡ client)
 
+-- the drain has this seat
+abbrev pub IsDrainAt : List View → ℕ → Type 0
+IsDrainAt views j = (v : View) × (get_elem? views j ≡ some v) × (v.role ≡ Drain)
+
 -- what holds of the words and the cells
 pub record IsSound (k : Shape) (t : Truth) (words : List ℕ) (homes : List Home) : Type 0 where
   pub some_cell : 0 < cells k
@@ -173,4 +177,5 @@ pub record IsLawful (k : Shape) (s : Intake) : Type 0 where
   pub truth : Truth
   pub sound : IsSound k truth s.words s.homes
   pub each_client : (c : ℕ) → c < truth.clients → IsOwned s.views truth.seat c
+  pub drained_by : IsDrainAt s.views truth.drain
   pub each_view : (j : ℕ) (v : View) → get_elem? s.views j ≡ some v → Fits truth j v v.role

@@ -79,14 +79,18 @@ fn is_write(item: &Item, client: u32, block: u64, fill: u8) -> bool {
     }
 }
 
+/// Whether an entry goes through a new machine as it should.
+fn one_goes_through(alloc: Global) -> Result<bool, AllocError> {
+    let Ok(geometry) = Geometry::new(4, 2, 2, 64) else {
+        return Ok(false);
+    };
+    let mut machine = Machine::new(alloc, &geometry, 0, 1)?;
+    Ok(first_steps(alloc, &mut machine)? && has_one(&machine))
+}
+
 #[test]
 fn an_entry_goes_through(rt: HostRuntime) -> Result<(), AllocError> {
-    let Ok(geometry) = Geometry::new(4, 2, 2, 64) else {
-        return Ok(());
-    };
-    let mut machine = Machine::new(rt.alloc(), &geometry, 0, 1)?;
-    assert!(rt; first_steps(rt.alloc(), &mut machine)?);
-    assert!(rt; has_one(&machine));
+    assert!(rt; one_goes_through(rt.alloc())?);
     Ok(())
 }
 
@@ -423,10 +427,13 @@ fn drive(
 
 /// Drives a new machine by each of 3,000 lists of steps, of which every eighth begins near the last id, and answers whether
 /// the rule held after each step.
-fn drive_all(alloc: Global, geometry: &Geometry, counts: &mut Counts) -> Result<bool, AllocError> {
+fn drive_all(alloc: Global, counts: &mut Counts) -> Result<bool, AllocError> {
+    let Ok(geometry) = Geometry::new(5, 2, 2, 64) else {
+        return Ok(false);
+    };
     for seed in 0..3000 {
         let first = if seed % 8 == 7 { (1 << 48) - 3 } else { 0 };
-        let mut machine = Machine::new(alloc, geometry, first, 2)?;
+        let mut machine = Machine::new(alloc, &geometry, first, 2)?;
         if !drive(alloc, &mut machine, first, seed, counts)? {
             return Ok(false);
         }
@@ -440,10 +447,7 @@ fn the_rule_holds_after_each_step(rt: HostRuntime) -> Result<(), AllocError> {
         allowed: [0; 11],
         refused: [0; 11],
     };
-    let Ok(geometry) = Geometry::new(5, 2, 2, 64) else {
-        return Ok(());
-    };
-    assert!(rt; drive_all(rt.alloc(), &geometry, &mut counts)?);
+    assert!(rt; drive_all(rt.alloc(), &mut counts)?);
     for kind in 0..11 {
         assert!(rt; counts.allowed[kind] > 0, "kind {kind} was never allowed");
         assert!(rt; counts.refused[kind] > 0, "kind {kind} was never refused");

@@ -3,14 +3,14 @@ use mathlib.Core.Bool.{false≢true}
 use Rattle.std.proofs.lemmas.List.{get_or_default}
 use mathlib.Core.Option.{some}
 use lib.ListN.{get_elem?}
-use Rattle.wb_steps.specs.Rule.{Intake, IsLawful}
+use Rattle.wb_steps.specs.Rule.{Intake, IsOwned, IsDrainAt, IsLawful}
 use Rattle.wb_steps.specs.Steps.{Allows, Makes, word_of, stepped}
 use Rattle.wb_steps.specs.Machines.{Standing, state_of}
 use Rattle.wb_steps.specs.declared.view.View.{View}
 use Rattle.wb_steps.proofs.Cells.{inside_of, at_one, view_at}
 use Rattle.wb_steps.proofs.Ready.{word_inside}
 use Rattle.wb_steps.proofs.Keeps.{step_keeps}
-use Rattle.wb_steps.proofs.Seats.{IsDrainAt, drain_stays}
+use Rattle.wb_steps.proofs.Seats.{drain_stays, owner_stays}
 use Rattle.wb_steps.proofs.machine.step.Goals as goal
 
 pub returns-in_default-clause-reply : goal.returns-in_default-clause-reply
@@ -76,6 +76,8 @@ pub invariant_of-machine-2 : goal.invariant_of-machine-2
 invariant_of-machine-2 c = record {
   shape = c.machine.invariant.shape;
   lawful = lawful c;
+  owners = λ n inside. subst (λ (s : Intake). IsOwned s.views (λ j. j) n) (sym (left c))
+      (owner_stays n c.machine.inside.shape (state_of c.machine.inside.parts) c.args.step.now.seat c.in-Some.view.now _ c.args.step.now.kind (at c) (allowed c) (c.machine.invariant.owners n inside));
   drain = subst (λ (s : Intake). IsDrainAt s.views c.machine.inside.clients) (sym (left c))
       (drain_stays c.machine.inside.shape (state_of c.machine.inside.parts) c.args.step.now.seat c.machine.inside.clients c.in-Some.view.now _ c.args.step.now.kind (at c) (allowed c) c.machine.invariant.drain);
 }

@@ -5,7 +5,7 @@ use Rattle.wb_geometry.specs.History.{HistoryEntry}
 use Rattle.wb_steps.specs.Views.{taking}
 use Rattle.wb_steps.specs.Rule as rule
 use Rattle.wb_steps.specs.declared.shape.Shape.{Shape}
-use Rattle.wb_intake.specs.Plays.{Sat, with_load}
+use Rattle.wb_intake.specs.Plays.{Sat, with_cell_load}
 use Rattle.wb_intake.proofs.Moves as moves
 use Rattle.wb_intake.proofs.board.Intake.take_out.Goals as goal
 
@@ -35,6 +35,6 @@ swap-requires c =
       c.exchange-item.ensures.0 ∙ c.load-found.ensures.0 ∙ c.requires.own,
       omega (arith, c.args.self.now.table.0, c.cell_of-cell.ensures.inside),
       moves.gives_at key c.args.self.now.cells.shared.table_id.slots c.exchange-item.new.seat.id c.args.seat.now.me.0 c.exchange-item.new.seat.me (4 + c.cell_of-cell.result) c.load-found.result f.1
-          (c.exchange-item.ensures.3 ∙ ap (λ (m : Sat). (m.0, (c.cell_of-cell.result, None) ∷ rest m.1)) f.2 ∙ (λ i. (with_load c.args.seat.now.me.0 (taking c.args.seat.now.me.0.view f.1) 4 c.load-found.result, (cell i, None) ∷ c.requires.drain.2 i)))
+          (c.exchange-item.ensures.3 ∙ ap (λ (m : Sat). (m.0, (c.cell_of-cell.result, None) ∷ rest m.1)) f.2 ∙ (λ i. (with_cell_load c.args.seat.now.me.0 (taking c.args.seat.now.me.0.view f.1) (4 + c.cell_of-cell.result) c.load-found.result, (cell i, None) ∷ c.requires.drain.2 i)))
           c.requires.drain.0 (let g : 4 + c.cell_of-cell.result ≡ length c.args.seat.now.me.0.view.known % rule.cells key + 4 = omega (arith, cell) in g),
     )

@@ -4,7 +4,7 @@ use Rattle.wb_steps.specs.Views.{beginning}
 use Rattle.wb_steps.specs.Machines.{IsStanding}
 use Rattle.wb_steps.specs.declared.view.Role.TheVariants.{Drain}
 use Rattle.wb_steps.proofs.Bounds.{some_cells}
-use Rattle.wb_steps.proofs.Starts.{starts, drain_at}
+use Rattle.wb_steps.proofs.Starts.{starts, owned_at, drain_at}
 use Rattle.wb_steps.proofs.machine.Machine.new.Goals as goal
 
 pub invariant_of-result : goal.invariant_of-result
@@ -14,5 +14,6 @@ invariant_of-result c =
     (record {
       shape = c.of-shape.ensures.fits;
       lawful = starts c.of-shape.result c.args.clients (some_cells c.of-shape.result c.of-shape.ensures.fits);
+      owners = owned_at c.args.clients (cells c.of-shape.result);
       drain = (beginning Drain c.args.clients (cells c.of-shape.result), drain_at c.args.clients (cells c.of-shape.result), refl);
     })
