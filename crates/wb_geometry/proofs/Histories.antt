@@ -303,7 +303,7 @@ pub IsPartOf-part_in : (s n b : ℕ) → 1 ≤ n → s < 8 * b + 8 → 8 * b < s
 IsPartOf-part_in s n b some low high = record { some = omega arith; small = omega arith; start = omega arith; end = omega arith }
 
 -- a request touches the blocks from that of its first sector to that of its last
-blocks_touched-some : (s n : ℕ) → 1 ≤ n → blocks_touched s n ≡ suc ((s + n - 1) / 8 - s / 8)
+pub blocks_touched-some : (s n : ℕ) → 1 ≤ n → blocks_touched s n ≡ suc ((s + n - 1) / 8 - s / 8)
 blocks_touched-some s n some = cond-false _ 0 _ (ne_eqb n 0 (λ e. omega arith)) ∙ (omega arith)
 
 -- a request of some sectors has a part for each block from that of its first sector to that of its last

@@ -6,3 +6,4 @@ pub mod Images
 pub mod Moments
 pub mod Lines
 pub mod Slots
+pub mod Splits

@@ -8,6 +8,7 @@ mod block;
 mod entry;
 mod geometry;
 mod request;
+mod splitting;
 mod spot;
 mod which;
 
@@ -15,5 +16,6 @@ pub use block::{Block, join_sectors};
 pub use entry::Entry;
 pub use geometry::{Geometry, GeometryRefused};
 pub use request::{Part, Places};
+pub use splitting::{Parts, split};
 pub use spot::Spot;
 pub use which::Which;

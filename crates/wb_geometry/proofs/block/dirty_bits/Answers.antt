@@ -1,4 +1,4 @@
-use Rattle.std.proofs.Common.{◌≢◌, subst, sym, ℕ}
+use Rattle.std.proofs.Common.{◌≢◌, subst, sym}
 use Rattle.wb_geometry.proofs.Blocks.{ones_shifted, part_is_dirty}
 use Rattle.wb_geometry.proofs.block.dirty_bits.Goals as goal
 
