@@ -14,8 +14,8 @@ use Rattle.wb_engine.specs.Content.{EngineContent, IsEngine, limit_of}
 use Rattle.wb_engine.specs.Standing.{Standing, IsSynced, IsOffDevices, MayCome, numbers_at}
 use Rattle.wb_engine.specs.Closing.{last_id}
 
-replicate_more : (count : ℕ) → replicate count (Void 0) ++ Void 0 ∷ [] ≡ replicate (count + 1) (Void 0)
-replicate_more count = replicate-append-replicate count 1 (Void 0)
+replicate_more : (client count : ℕ) → replicate count (Void client) ++ Void client ∷ [] ≡ replicate (count + 1) (Void client)
+replicate_more client count = replicate-append-replicate count 1 (Void client)
 
 -- ---- places of a segment
 
@@ -71,7 +71,7 @@ module _ {L B : Type 0} {inside e : EngineContent L B} (view : inside ≡ e) (ea
 
 -- ---- one place after another
 
-module _ {L B : Type 0} (of_log : L → State) (of_backing : B → State) where
+module _ {L B : Type 0} (of_log : L → State) (of_backing : B → State) (client : ℕ) where
   -- so many places were filled
   pub record IsFilling (old now : EngineContent L B) (count : ℕ) : Type 0 where
     pub kept : IsOffDevices old now
@@ -80,7 +80,7 @@ module _ {L B : Type 0} (of_log : L → State) (of_backing : B → State) where
     pub first : now.numbers.first ≡ old.numbers.first
     pub stable : now.numbers.stable ≡ old.numbers.stable
     pub logged : now.numbers.logged ≡ old.numbers.logged
-    pub stands : (base : Image) (h : List HistoryEntry) → Standing of_log of_backing old base h → Standing of_log of_backing now base (h ++ replicate count (Void 0))
+    pub stands : (base : Image) (h : List HistoryEntry) → Standing of_log of_backing old base h → Standing of_log of_backing now base (h ++ replicate count (Void client))
     pub synced : IsSynced of_log of_backing old → IsSynced of_log of_backing now
 
   pub filling_none : (e : EngineContent L B) → IsEngine of_log of_backing e → IsFilling e e 0
@@ -97,7 +97,7 @@ module _ {L B : Type 0} (of_log : L → State) (of_backing : B → State) where
 
   -- another may come
   pub filling_comes : (old now : EngineContent L B) (begun index : ℕ) → IsEngine of_log of_backing old → IsFilling old now (index - begun) → begun ≡ old.absorbed % places old.geometry
-      → 1 ≤ begun → begun ≤ index → index < places old.geometry → MayCome now (entry.Void 0)
+      → 1 ≤ begun → begun ≤ index → index < places old.geometry → MayCome now (entry.Void client)
   filling_comes old now begun index is so_far is_begun some low high =
       let n : ℕ = places old.geometry in
       let a : ℕ = old.absorbed in
@@ -127,7 +127,7 @@ module _ {L B : Type 0} (of_log : L → State) (of_backing : B → State) where
   -- and it has come
   pub filling_more : (old mid new : EngineContent L B) (count : ℕ) → IsFilling old mid count
       → IsOffDevices mid new → new.absorbed ≡ mid.absorbed + 1 → new.numbers ≡ numbers_at mid.geometry mid.numbers (mid.absorbed + 1)
-      → ((base : Image) (h : List HistoryEntry) → Standing of_log of_backing mid base h → Standing of_log of_backing new base (h ++ Void 0 ∷ []))
+      → ((base : Image) (h : List HistoryEntry) → Standing of_log of_backing mid base h → Standing of_log of_backing new base (h ++ Void client ∷ []))
       → (IsSynced of_log of_backing mid → IsSynced of_log of_backing new) → IsFilling old new (count + 1)
   filling_more old mid new count so_far kept absorbed numbers stands synced = record {
     kept = record {
@@ -147,8 +147,8 @@ module _ {L B : Type 0} (of_log : L → State) (of_backing : B → State) where
     logged = ap (λ (m : Numbers). m.logged) numbers ∙ so_far.logged;
     stands = λ base h before.
         subst (λ (l : List HistoryEntry). Standing of_log of_backing new base l)
-        (append_assoc h (replicate count (Void 0)) (Void 0 ∷ []) ∙ ap (λ (l : List HistoryEntry). h ++ l) (replicate_more count))
-        (stands base (h ++ replicate count (Void 0)) (so_far.stands base h before));
+        (append_assoc h (replicate count (Void client)) (Void client ∷ []) ∙ ap (λ (l : List HistoryEntry). h ++ l) (replicate_more client count))
+        (stands base (h ++ replicate count (Void client)) (so_far.stands base h before));
     synced = λ is. synced (so_far.synced is);
   }
 

@@ -10,7 +10,7 @@ use Rattle.std.proofs.lemmas.List.{get_or_default, get_or-drop, get_or-take, len
 use Rattle.std.proofs.lemmas.List.FromFn.{length-enumerate_from, get_or-enumerate_from}
 use Rattle.std.proofs.lemmas.List.Sums.{sum_by-cons}
 use Rattle.std.proofs.lemmas.List.Splits.{length-slice_split}
-use Rattle.wb_script.specs.Grammar.{but_empty_last, lines}
+use Rattle.wb_script.specs.Grammar.{but_empty_last, lines, request_lines}
 
 -- the parts between the newlines
 abbrev pub is_newline : ℕ → Bool
@@ -132,7 +132,17 @@ first_given {s = s} u None other e some given =
     let end = YieldsList-end e [] s refl None u refl given in
     absurd (omega (arith, end.1))
 
--- ---- the lines behind the first, each with its place
+-- ---- the lines behind the first
+
+-- which line it is
+pub request_line : (bytes : List ℕ) (k : ℕ) (line : List ℕ) → k < length (drop 1 (take (length (lines bytes)) (parts bytes)))
+    → line ≡ get_or (drop 1 (take (length (lines bytes)) (parts bytes))) k line → (k < length (request_lines bytes)) × (line ≡ get_or (request_lines bytes) k [])
+request_line bytes k line below same =
+    let every : drop 1 (take (length (lines bytes)) (parts bytes)) ≡ request_lines bytes = ap (drop 1) (take-lines bytes) in
+    let inside : k < length (request_lines bytes) = omega (arith, ap length every) in
+    (inside, same ∙ ap (λ all. get_or all k line) every ∙ get_or_default (request_lines bytes) k line [] inside)
+
+-- ---- each with its place
 
 abbrev pub placed_lines : List ℕ → List (ℕ × List ℕ)
 placed_lines bytes = drop 1 (take (length (lines bytes)) (enumerate_from 0 (parts bytes)))

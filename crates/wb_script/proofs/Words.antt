@@ -1,29 +1,23 @@
--- The first words of a line, next to all of them.
-use Rattle.std.proofs.Common.{ℕ, ◌≡◌, ◌<◌, ◌≤◌, ◌-◌, List, [], ◌∷◌, length, take, Bor, map, get_or, drop, subst, sym, ap, ◌∙◌, arith}
-use Rattle.std.proofs.lemmas.List.{length-take, take_all, take_rest}
-use Rattle.wb_script.specs.Grammar.{IsSpelled}
-use Rattle.wb_script.specs.declared.request.Request.{Request}
-use Rattle.wb_script.specs.declared.request.Request.TheVariants.{Write, Read}
+-- The words of a line that are kept, next to all of them.
+use Rattle.std.proofs.Common.{ℕ, ◌≡◌, ◌<◌, ◌≤◌, List, [], length, take, Bor, map, get_or, inl, inr, sym, ap, ◌∙◌, arith}
+use Rattle.std.proofs.lemmas.Bool.{cases_lt}
+use Rattle.std.proofs.lemmas.List.{length-take, length-map, get_or-take, get_or-map, get_or_past}
 
--- where fewer come than asked for, these are all
-whole : (n : ℕ) (parts few : List (List ℕ)) → take n parts ≡ few → length few < n → parts ≡ few
-whole n parts few e short = sym (take_all n parts (omega (arith, length-take n parts, ap length e))) ∙ e
+-- one of the words that are kept, the first six
+pub kept_word : (parts : List (List ℕ)) (first : List (Bor (List ℕ))) (count at : ℕ) (other : Bor (List ℕ)) → map (λ part. part.now) (take count first) ≡ take 6 parts
+    → at < count → at < 6 → other.now ≡ [] → (get_or first at other).now ≡ get_or parts at []
+kept_word parts first count at other kept below six none =
+    elim (cases_lt at (length first)) [
+      | inl inside ↦
+          let within : at < length (take count first) = omega (arith, length-take count first) in
+          ap (λ part. part.now) (sym (get_or-take count first at other below))
+          ∙ sym (get_or-map (λ part. part.now) (take count first) at other [] within)
+          ∙ ap (λ all. get_or all at []) kept ∙ get_or-take 6 parts at [] six
+      | inr past ↦
+          let few : length parts ≤ at = omega (arith, ap length kept, length-map (take count first) (λ part. part.now), length-take count first, length-take 6 parts) in
+          ap (λ part. part.now) (get_or_past first at other past) ∙ none ∙ sym (get_or_past parts at [] few)
+    ]
 
--- so what the first six words of a line spell, the line spells
-pub IsSpelled-from_first : (parts few : List (List ℕ)) (client : ℕ) (request : Request) → take 6 parts ≡ few → IsSpelled few client request → IsSpelled parts client request
-IsSpelled-from_first parts few client (Write sector count pattern fua) e h =
-    (h.0, h.1, whole 6 parts few e (omega (arith, ap length h.2)) ∙ h.2)
-IsSpelled-from_first parts few client (Read sector count) e h =
-    whole 6 parts few e (omega (arith, ap length h)) ∙ h
-
--- two words, and the rest as the code has it
-first_two : (ws : List (Bor (List ℕ))) (c d : Bor (List ℕ)) → 2 ≤ length ws
-    → map (λ word. word.now) ws ≡ (get_or ws 0 c).now ∷ (get_or ws 1 d).now ∷ map (λ word. word.now) (take (length ws - 2) (drop 2 ws))
-first_two [] c d two = absurd (omega arith)
-first_two (x ∷ []) c d two = absurd (omega arith)
-first_two (x ∷ y ∷ more) c d two = ap (λ rest. x.now ∷ y.now ∷ map (λ word. word.now) rest) (sym (take_rest (x ∷ y ∷ more) 2))
-
-pub IsSpelled-from_words : (ws : List (Bor (List ℕ))) (c d : Bor (List ℕ)) (client : ℕ) (request : Request) → 2 ≤ length ws
-    → IsSpelled ((get_or ws 0 c).now ∷ (get_or ws 1 d).now ∷ map (λ word. word.now) (take (length ws - 2) (drop 2 ws))) client request
-    → IsSpelled (map (λ word. word.now) ws) client request
-IsSpelled-from_words ws c d client request two h = subst (λ parts. IsSpelled parts client request) (sym (first_two ws c d two)) h
+-- there is no such word
+pub no_word : (parts : List (List ℕ)) (count at : ℕ) → count ≡ length (take 6 parts) → count ≤ at → at < 6 → get_or parts at [] ≡ []
+no_word parts count at counted past six = get_or_past parts at [] (omega (arith, length-take 6 parts))

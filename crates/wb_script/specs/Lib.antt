@@ -1,8 +1,14 @@
 pub mod Patterns
+pub mod Held
+pub mod Keeping
 pub mod Content
+pub mod Commands
 pub mod Valid
 pub mod Grammar
+pub mod Reading
+pub mod Counting
 pub mod Refused
 pub mod Transcripts
+pub mod Clients
 pub mod Output
 pub mod Printed

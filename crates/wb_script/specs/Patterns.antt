@@ -15,6 +15,7 @@ repeats bytes n = (length bytes % n == 0) && pointwise nat_eq (repeated (take n 
 unfoldable pub shortest_pattern : List ℕ → List ℕ
 shortest_pattern bytes = take (unwrap_or (find (repeats bytes) (range_with_len 1 (length bytes))) 0) bytes
 
--- no shorter pattern, repeated to so many bytes, is the same bytes
-abbrev pub IsShortest : List ℕ → ℕ → Type 0
-IsShortest pattern size = pattern ≡ shortest_pattern (repeated pattern size)
+-- the pattern, repeated, has so many bytes, and no shorter one is the same bytes
+pub record IsShortest (pattern : List ℕ) (size : ℕ) : Type 0 where
+  pub fills : length (repeated pattern size) ≡ size
+  pub shortest : pattern ≡ shortest_pattern (repeated pattern size)

@@ -12,8 +12,8 @@ mod script;
 mod transcript;
 
 pub use parsing::{number, parse};
-pub use printing::{PrintStop, print};
+pub use printing::{PrintStop, print, sum_text};
 pub use refusal::{Cause, ParseStop, ScriptRefused};
-pub use request::{Pattern, Request};
+pub use request::{Command, Pattern, Request};
 pub use script::{Requests, Script};
-pub use transcript::{Line, Shown, Stop, Transcript};
+pub use transcript::{Ended, Line, Shown, Stop, Taken, Transcript};

@@ -1,19 +1,25 @@
 //! Reading a script.
-ghost use Rattle.std.specs.Prelude.{◌≡◌, ◌≤◌, ℕ, length, IfOk, IfErr, MatchOption};
-ghost use Rattle.wb_script.specs.Grammar.{IsHeader, IsTheScript, lines, most_bytes, most_lines, words, words_at};
+ghost use Rattle.std.specs.Prelude.{◌≡◌, ◌≤◌, ◌^◌, ◌++◌, ◌∷◌, [], ℕ, List, length, IfOk, IfErr, OnOk, MatchOption};
+ghost use Rattle.wb_script.specs.Grammar.{IsHeader, IsRequest, IsTheScript, lines, most_bytes, most_lines, words, words_at};
+ghost use Rattle.wb_script.specs.Valid.{most_clients};
+ghost use Rattle.wb_script.specs.Counting.{IsReadSoFar, IsLineRefused};
+ghost use Rattle.wb_script.specs.declared.request.Request.{Request};
 ghost use Rattle.wb_script.specs.Refused.{HasRefusal};
 ghost use Rattle.wb_script.specs.declared.refusal.ParseStop.TheVariants.{Memory};
 
 mod lines;
+mod notes;
+mod reading;
 mod requests;
 #[cfg(test)]
 mod tests;
 mod words;
 
-use crate::{Cause, ParseStop, Requests, Script, ScriptRefused};
+use crate::{Cause, ParseStop, Script, ScriptRefused};
 use lines::{first_line, line_count};
+use reading::Reading;
 use requests::{LineStop, read_request};
-use std::alloc::{AllocFailed, Global};
+use std::alloc::{AllocError, Global};
 use wb_geometry::Geometry;
 pub use words::number;
 use words::{Words, is};
@@ -25,7 +31,7 @@ const MOST_BYTES: usize = 67_108_864;
 const MOST_LINES: usize = 250_001;
 
 /// The most clients of a script.
-const MOST_CLIENTS: u64 = 1;
+const MOST_CLIENTS: u64 = 32;
 
 /// The script that the bytes spell, for a cache of this geometry, or the least line that offends and its first cause
 /// (docs/SCRIPT.md). Bytes spell one script or have one refusal, and never both.
@@ -56,13 +62,10 @@ fn clients_of(line: &[u8]) -> Option<u32>
     ensures { MatchOption result ((clients : ℕ) → IsHeader (words line.now) clients → ⊥) (IsHeader (words line.now)) }
 {
     let words = Words::of(line);
-    let [name, clients] = words.as_slice() else {
-        return None;
-    };
-    if !is(name, b"clients") {
+    if words.len() != 2 || !is(words.get(0), b"clients") {
         return None;
     }
-    let clients = number(clients)?;
+    let clients = number(words.get(1))?;
     if 1 <= clients && clients <= MOST_CLIENTS {
         Some(clients as u32)
     } else {
@@ -85,23 +88,40 @@ fn read_script(
     ensures script { IfOk result (IsTheScript sectors bytes.now) }
     ensures refused { IfErr result (HasRefusal sectors bytes.now) }
 {
-    let mut requests = Vec::new(alloc);
+    let mut reading = Reading::of(alloc, bytes, count, clients)?;
     let lines = bytes.split(|byte| *byte == b'\n');
     for (index, line) in lines.enumerate().take(count).skip(1) {
-        match read_request(alloc, line, clients, sectors) {
-            Ok((_, request)) => requests.push(request)?,
+        match read_line(alloc, &mut reading, line, clients, sectors) {
+            Ok(()) => {}
             Err(LineStop::Offends(cause)) => return Err(refused(index as u64 + 1, cause)),
             Err(LineStop::Memory) => return Err(ParseStop::Memory),
         }
     }
-    let requests = vec![in alloc; Requests::of(requests)]?;
-    Ok(Script::of(clients, sectors, requests))
+    Ok(Script::of(clients, sectors, reading.requests))
 }
 
-impl<T: Drop> From<AllocFailed<T>> for ParseStop {
+/// Reads a line behind those before.
+fn read_line(
+    alloc: Global,
+    reading: &mut Reading,
+    line: &[u8],
+    clients: u32,
+    sectors: u64,
+) -> Result<(), LineStop>
+    requires few { clients ≤ most_clients }
+    requires read { (all : List (List ℕ)) × (owned : List (ℕ × Request)) × IsReadSoFar all clients owned reading.old }
+    ensures read { OnOk result ((client : ℕ) × (request : Request) × IsRequest sectors clients (words line.now) client request
+        × ((all : List (List ℕ)) (owned : List (ℕ × Request)) → IsReadSoFar all clients owned reading.old → IsReadSoFar all clients (owned ++ (client, request) ∷ []) reading.new)) }
+    ensures refused { IfErr result (IsLineRefused sectors clients (words line.now) reading.old) }
+{
+    let (client, request) = read_request(alloc, line, clients, sectors)?;
+    reading.add(client, request)
+}
+
+impl From<AllocError> for ParseStop {
     ghost from_gives = { λ _ stop. stop ≡ Memory };
 
-    fn from(_failed: AllocFailed<T>) -> ParseStop {
+    fn from(_error: AllocError) -> ParseStop {
         ParseStop::Memory
     }
 }

@@ -7,7 +7,8 @@ ghost use Rattle.wb_script.specs.declared.printing.PrintStop.TheVariants.{Fault,
 
 mod line;
 
-use crate::{Line, Request, Requests, Script, Transcript};
+use crate::{Request, Requests, Script, Transcript};
+pub use line::sum_text;
 use line::{push_count, push_line};
 use std::alloc::{AllocError, Global};
 use wb_device::{Sink, SinkFault};
@@ -70,14 +71,7 @@ fn print_clients<K: Sink>(
         (string_bytes text.old) (string_bytes text.new) (transcripts_text 0 requests.now transcripts.now) result }
 {
     for (client, (requests, transcript)) in requests.iter().zip(transcripts).enumerate() {
-        print_client(
-            alloc,
-            sink,
-            text,
-            client,
-            requests.as_slice(),
-            transcript.as_slice(),
-        )?;
+        print_client(alloc, sink, text, client, requests.as_slice(), transcript)?;
     }
     Ok(())
 }
@@ -89,13 +83,16 @@ fn print_client<K: Sink>(
     text: &mut String,
     client: usize,
     requests: &[Request],
-    lines: &[Line],
+    transcript: &Transcript,
 ) -> Result<(), PrintStop>
     ensures { PrintsThrough (K.taken sink.old) (K.taken sink.new) (K.faults sink.old) (K.faults sink.new)
-        (string_bytes text.old) (string_bytes text.new) (transcript_text client requests.now lines.now) result }
+        (string_bytes text.old) (string_bytes text.new) (transcript_text client requests.now transcript.now) result }
 {
-    for (request, line) in requests.iter().zip(lines) {
-        push_line(alloc, text, client, request, line)?;
+    for (index, request) in requests.iter().enumerate() {
+        let Some(line) = transcript.get(index) else {
+            return Ok(());
+        };
+        push_line(alloc, text, client, request, &line)?;
         write_if_full(sink, text)?;
     }
     Ok(())

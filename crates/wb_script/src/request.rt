@@ -33,6 +33,19 @@ impl Pattern {
     }
 }
 
+/// The commands of a script, each of which has a letter (docs/SCRIPT.md).
+#[derive(Clone, Copy, Debug, PartialEq, Eq)]
+pub enum Command {
+    Write,
+    ForcedWrite,
+    Read,
+    ReadSum,
+    Flush,
+    Defer,
+    Tell,
+    Hear,
+}
+
 /// A request of a client.
 #[derive(Debug, Drop)]
 pub enum Request {
@@ -48,5 +61,22 @@ pub enum Request {
     Read {
         sector: u64,
         count: u64,
+    },
+    /// A read of `count` sectors from `sector` on, whose checksum is shown.
+    ReadSum {
+        sector: u64,
+        count: u64,
+    },
+    /// A flush: it is answered once all that the client has seen would survive a crash.
+    Flush,
+    /// A flush that is posted here, and answered behind the last request of the client.
+    Defer,
+    /// Leaves a note for a client of a higher number.
+    Tell {
+        client: u32,
+    },
+    /// Waits for the next note that a client of a lower number left for this one.
+    Hear {
+        client: u32,
     },
 }

@@ -1,7 +1,8 @@
 //! A script that was parsed.
-ghost use Rattle.std.specs.Prelude.{◌≡◌};
+ghost use Rattle.std.specs.Prelude.{◌≡◌, ◌++◌, ◌∷◌, [], OnOk, OnErr};
 
 use crate::Request;
+use std::alloc::{AllocError, Global};
 use std::marker::Model;
 
 /// The requests of one client, in the order of lines.
@@ -20,11 +21,22 @@ impl Model for Requests {
 }
 
 impl Requests {
-    /// These requests.
-    pub fn of(items: Vec<Request>) -> Requests
-        ensures { result ≡ items.items }
+    /// No request yet.
+    pub fn new(alloc: Global) -> Requests
+        ensures { result ≡ [] }
     {
-        Requests { items }
+        Requests {
+            items: Vec::new(alloc),
+        }
+    }
+
+    /// Adds a request behind the others. For want of memory they stay as they were.
+    pub fn push(&mut self, request: Request) -> Result<(), AllocError>
+        ensures ok { OnOk result (self.new ≡ self.old ++ request ∷ []) }
+        ensures err { OnErr result (self.new ≡ self.old) }
+    {
+        self.items.push(request)?;
+        Ok(())
     }
 
     /// The requests in order.

@@ -1,10 +1,17 @@
 //! The answers to a script.
-ghost use Rattle.std.specs.Prelude.{◌≡◌, ◌<◌, ◌≤◌, ◌++◌, ◌∷◌, [], length, OnOk, OnErr, IfOk};
-ghost use Rattle.wb_script.specs.Patterns.{repeats, shortest_pattern};
+ghost use Rattle.std.specs.Prelude.{◌≡◌, ◌==◌, ◌++◌, ◌∷◌, [], length, map, slice_get, OnOk, OnErr, IfOk};
+ghost use Rattle.wb_script.specs.Keeping.{marked};
 
+mod kept;
+mod shown;
+mod taken;
+
+use kept::KeptLine;
+pub use shown::Shown;
 use std::alloc::{AllocError, Global};
 use std::marker::Model;
-use wb_geometry::{Places, Which};
+pub use taken::Taken;
+use wb_geometry::Which;
 
 /// How a write ended.
 #[derive(Clone, Copy, Debug, PartialEq, Eq)]
@@ -17,21 +24,64 @@ pub enum Stop {
     Ids,
 }
 
-/// The answer to a request.
-#[derive(Debug, Drop)]
-pub enum Line {
-    /// The places that the parts of a write took in the history, and how it ended.
-    Wrote { places: Places, stop: Stop },
-    /// What a read showed, at this point of the history: after so many entries.
-    Got { point: u64, payload: Shown },
-    /// A read that failed on this device.
-    Failed { device: Which },
+/// How a flush ended.
+#[derive(Clone, Copy, Debug, PartialEq, Eq)]
+pub struct Ended {
+    /// Its number: all places below it are flushed, where it was done.
+    pub through: u64,
+    /// The number of places right below that which it took, and which change nothing.
+    pub voids: u64,
+    /// Where it wasn't done: the device by which the cache is down.
+    pub down: Option<Which>,
 }
 
-/// The answers to the requests of a client, in order.
+/// The answer to a request.
+#[derive(Debug, Drop)]
+pub enum Line<'a> {
+    /// The places that the parts of a write took in the history, and how it ended.
+    Wrote {
+        places: Taken<'a>,
+        stop: Stop,
+    },
+    /// The same of a write with `fua`, and the flush behind it, where it is whole.
+    Forced {
+        places: Taken<'a>,
+        flush: Option<Ended>,
+        stop: Stop,
+    },
+    /// What a read showed, at this point of the history: after so many entries.
+    Got {
+        point: u64,
+        payload: Shown<'a>,
+    },
+    /// The checksum of what was read, at this point of the history.
+    Summed {
+        point: u64,
+        sum: u32,
+    },
+    /// A read that failed on this device.
+    Failed {
+        device: Which,
+    },
+    /// The end of a flush.
+    Flushed {
+        ended: Ended,
+    },
+    /// The end of a flush that was posted here.
+    Deferred {
+        ended: Ended,
+    },
+    /// A note was left.
+    Told,
+    /// A note was heard.
+    Heard,
+}
+
+/// The answers to the requests of a client, in order. A line takes 48 bytes, and memory of its own only for more places than
+/// one, for a stopped write with `fua`, and for the shortest pattern of the bytes that it shows.
 #[derive(Debug, Drop)]
 pub struct Transcript {
-    lines: Vec<Line>,
+    lines: Vec<KeptLine>,
 }
 
 impl Model for Transcript {
@@ -54,136 +104,41 @@ impl Transcript {
     }
 
     /// Adds a line. For want of memory the transcript stays as it was.
-    pub fn push(&mut self, line: Line) -> Result<(), AllocError>
-        ensures ok { OnOk result (self.new ≡ self.old ++ line ∷ []) }
+    pub fn push(&mut self, alloc: Global, line: &Line<'_>) -> Result<(), AllocError>
+        ensures ok { OnOk result (self.new ≡ self.old ++ line.now ∷ []) }
         ensures err { OnErr result (self.new ≡ self.old) }
     {
-        self.lines.push(line)?;
+        self.lines.push(KeptLine::of(alloc, line)?)?;
         Ok(())
     }
 
-    /// The lines in order.
-    pub fn as_slice(&self) -> &[Line]
-        ensures { result.now ≡ self.now }
+    /// The number of lines.
+    pub fn len(&self) -> usize
+        ensures { result ≡ length self.now }
     {
-        self.lines.as_slice()
+        self.lines.len()
     }
-}
 
-/// The bytes that a read showed. They are kept as their shortest pattern.
-#[derive(Debug, Drop)]
-pub struct Shown {
-    pattern: Vec<u8>,
-    count: usize,
-}
-
-impl Model for Shown {
-    ghost use Rattle.std.specs.Prelude.{ℕ, List};
-    ghost use Rattle.wb_script.specs.Patterns.{repeated, IsShortest};
-
-    ghost Value = { List ℕ };
-
-    ghost view = { λ s. repeated s.pattern.items s.count };
-
-    ghost invariant = { λ s. IsShortest s.pattern.items s.count };
-}
-
-impl Shown {
-    ghost use Rattle.std.specs.Prelude.{◌≡◌, ◌<◌, length, IfOk};
-    ghost use Rattle.wb_script.specs.Patterns.{shortest_pattern};
-
-    /// These bytes, at least one. Only their pattern takes memory.
-    pub fn of(alloc: Global, bytes: &[u8]) -> Result<Shown, AllocError>
-        requires { 0 < length bytes.now }
-        ensures { IfOk result (λ shown. shown ≡ bytes.now) }
+    /// Whether there is no line.
+    pub fn is_empty(&self) -> bool
+        ensures { result ≡ (length self.now == 0) }
     {
-        let pattern = Vec::from_slice(alloc, shortest(bytes))?;
-        Ok(Shown {
-            pattern,
-            count: bytes.len(),
-        })
+        self.lines.is_empty()
     }
 
-    /// The shortest pattern that, repeated, is the bytes.
-    pub fn pattern(&self) -> &[u8]
-        ensures { result.now ≡ shortest_pattern self.now }
+    /// The line of this number, counted from 0, where there is one.
+    pub fn get(&self, index: usize) -> Option<Line<'_>>
+        ensures { result ≡ slice_get self.now index }
     {
-        self.pattern.as_slice()
+        Some(self.lines.get(index)?.line())
     }
-}
 
-/// The shortest front that, repeated, is the bytes.
-fn shortest(bytes: &[u8]) -> &[u8]
-    requires { 0 < length bytes.now }
-    ensures { result.now ≡ shortest_pattern bytes.now }
-{
-    for n in 1..bytes.len() {
-        if repeats_front(bytes, n) {
-            return &bytes[..n];
+    /// Marks each posted flush whose number is above `stable` as one that wasn't done, since the cache is down by the device.
+    pub fn mark_deferred(&mut self, stable: u64, device: Which)
+        ensures { self.new ≡ map (marked stable device) self.old }
+    {
+        for line in self.lines.iter_mut() {
+            line.mark_deferred(stable, device);
         }
-    }
-    bytes
-}
-
-/// Whether the bytes are their first `n`, repeated: then each byte behind those is the same as the byte `n` before it.
-fn repeats_front(bytes: &[u8], n: usize) -> bool
-    requires some { 0 < n }
-    requires within { n ≤ length bytes.now }
-    ensures { result ≡ repeats bytes.now n }
-{
-    bytes.len() % n == 0 && bytes[n..] == bytes[..bytes.len() - n]
-}
-
-#[cfg(test)]
-mod tests {
-    use super::*;
-    use std::process::Abort;
-    use std::test::Fail;
-
-    /// Bytes, the pattern that is repeated, and how often the bytes are repeated.
-    const PATTERNS: [(&[u8], &[u8], usize); 6] = [
-        (b"\xaa", b"\xaa", 512),
-        (b"\xaa\xbb", b"\xaa\xbb", 256),
-        (b"abab", b"ab", 128),
-        (b"a", b"a", 1),
-        (b"aaab", b"aaab", 1),
-        // the same 3 bytes further on, and no number of times 3 bytes
-        (b"abaab", b"abaab", 1),
-    ];
-
-    /// Of these bytes this pattern is kept.
-    fn keeps(rt: &impl Abort, alloc: Global, bytes: &[u8], pattern: &[u8]) -> Result<(), Fail> {
-        assert!(rt; !bytes.is_empty());
-        let shown = Shown::of(alloc, bytes)?;
-        assert_eq!(rt; shown.pattern(), pattern);
-        Ok(())
-    }
-
-    fn repeated(alloc: Global, bytes: &[u8], count: usize) -> Result<Vec<u8>, AllocError> {
-        let mut all = Vec::new(alloc);
-        for _ in 0..count {
-            all.extend_from_slice(bytes)?;
-        }
-        Ok(all)
-    }
-
-    #[test]
-    fn the_shortest_pattern_is_kept(rt: HostRuntime) -> Result<(), Fail> {
-        for (bytes, pattern, count) in &PATTERNS {
-            let all = repeated(rt.alloc(), bytes, *count)?;
-            keeps(&rt, rt.alloc(), &all, pattern)?;
-        }
-        Ok(())
-    }
-
-    #[test]
-    fn bytes_that_do_not_repeat_are_kept_whole(rt: HostRuntime) -> Result<(), Fail> {
-        let mut three = [0xaa; 1536];
-        three[512..1024].fill(0xbb);
-        three[1024..].fill(0xcc);
-        keeps(&rt, rt.alloc(), &three, &three)?;
-        let mut last = [0xaa; 512];
-        last[511] = 0xbb;
-        keeps(&rt, rt.alloc(), &last, &last)
     }
 }

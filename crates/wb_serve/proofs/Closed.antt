@@ -1,6 +1,7 @@
 -- What a session leaves of both devices once its engine was closed.
-use Rattle.std.proofs.Common.{ℕ, ◌≡◌, ◌+◌, ◌-◌, ◌/◌, List, [], Option, Some, None, ap, ◌∙◌, subst, arith}
+use Rattle.std.proofs.Common.{ℕ, ◌≡◌, ◌+◌, ◌-◌, ◌*◌, ◌/◌, ◌≤◌, List, [], Option, Some, None, ap, ◌∙◌, subst, arith}
 use Rattle.std.specs.Option.{IsSome}
+use Rattle.std.proofs.Math.Nat.{div-lt_iff_lt-mul}
 use Rattle.std.proofs.lemmas.List.Elements.{All-contains_itself}
 use Rattle.wb_geometry.specs.Image.{Image}
 use Rattle.wb_geometry.specs.History.{HistoryEntry, after, PutsPartly}
@@ -11,7 +12,7 @@ use Rattle.wb_geometry.specs.declared.geometry.Geometry.{Geometry}
 use Rattle.wb_geometry.specs.declared.which.Which.{Which}
 use Rattle.wb_geometry.specs.declared.which.Which.TheVariants.{Log, Backing}
 use Rattle.wb_geometry.proofs.Histories.{puts_then}
-use Rattle.wb_geometry.proofs.Moments.{content_joined}
+use Rattle.wb_geometry.proofs.Geometries.{places_few}
 use Rattle.wb_super.specs.Superblock.{record_of}
 use Rattle.wb_super.specs.declared.reading.Super.{Super}
 use Rattle.wb_crash.specs.Chain.{IsChain}
@@ -20,7 +21,8 @@ use Rattle.wb_engine.specs.Content.{EngineContent}
 use Rattle.wb_engine.specs.Standing.{Standing, Told, IsSynced, line}
 use Rattle.wb_engine.specs.Closing.{last_id}
 use Rattle.wb_engine.specs.Opening.{recovered_to}
-use Rattle.wb_serve.specs.Session.{last_segment}
+use Rattle.wb_serve.specs.Session.{last_segment, covered_segment}
+use Rattle.wb_engine.specs.Settling.{stable_places}
 use Rattle.wb_serve.specs.Playing.{HasCome, IsTold}
 use Rattle.wb_serve.proofs.Moves.{a_base, told_base}
 use Rattle.wb_serve.proofs.Crashes.{crash_around}
@@ -37,6 +39,12 @@ module _ {L B : Type 0} where
   told_of P found taken e cache holds =
       let same : (e.geometry, e.numbers.first, e.absorbed) ≡ (found.geometry, recovered_to found, taken) = cc (cache.geometry, cache.first, cache.absorbed) in
       subst P same holds
+
+-- places in so many segments are in no more
+covered_few : (n covers segments : ℕ) → 1 ≤ n → covers ≤ n * segments → (covers + n - 1) / n ≤ segments
+covered_few n covers segments some low =
+    let few = (div-lt_iff_lt-mul {k = n} {x = covers + n - 1} {y = segments + 1} some).1 (omega (arith, low, some)) in
+    omega (arith, few)
 
 -- what closing an engine left of both devices; this one failed, if one did
 pub record Closes {L B : Type 0} (of_log : L → State) (of_backing : B → State) (fault : Option Which) (log_end backing_end : State) (e : EngineContent L B) : Type 0 where
@@ -77,14 +85,18 @@ module _ {L B : Type 0} {of_log : L → State} {of_backing : B → State} {fault
       let was : P (e.geometry, e.numbers.first, e.absorbed) = closes.empty none base.0 h (come.stands base.0 base.1 some) x told in
       told_of P found taken e cache was
 
-  -- what a crash then leaves, from the record at the start to the last segment
-  pub end_crash : (found : Super) (taken : ℕ) (base : Image) → IsCacheOf found taken e
+  -- what a crash then leaves, from the last segment that these stable places are in to the last of all
+  pub end_crash : (found : Super) (taken covers : ℕ) (base : Image) → IsCacheOf found taken e → covers ≤ stable_places e
       → HasCome of_log of_backing start e h log_fails backing_fails → Closes of_log of_backing fault log_end backing_end e
       → IsTold of_log of_backing start base
-      → CrashNow found.geometry (line_of (places found.geometry) (recovered_to found) base h) (recovered_to found) (last_segment found taken) log_end backing_end
-  end_crash found taken base cache come closes tells =
+      → CrashNow found.geometry (line_of (places found.geometry) (recovered_to found) base h) (covered_segment found covers) (last_segment found taken) log_end backing_end
+  end_crash found taken covers base cache low come closes tells =
       let stands = come.stands base (told_base (of_backing start.backing) base tells.1) tells.0 in
       let ordered = stands.safe.ordered in
-      let P : Geometry × ℕ × ℕ → Type 0 = λ t. CrashNow t.0 (line_of (places t.0) t.1 base h) t.1 (t.1 + (t.2 + places t.0 - 1) / places t.0) log_end backing_end in
-      let was : P (e.geometry, e.numbers.first, e.absorbed) = crash_around e.numbers.first (last_id e) (omega (arith, ordered.start, ordered.recorded, ordered.back)) (omega arith) (closes.crash base h stands) in
+      let n : ℕ = places e.geometry in
+      let segments : (covers + n - 1) / n ≤ e.numbers.stable - e.numbers.first = covered_few n covers (e.numbers.stable - e.numbers.first) (places_few e.geometry).0 low in
+      let P : Geometry × ℕ × ℕ → Type 0 = λ t.
+      CrashNow t.0 (line_of (places t.0) t.1 base h) (t.1 + (covers + places t.0 - 1) / places t.0) (t.1 + (t.2 + places t.0 - 1) / places t.0) log_end backing_end in
+      let was : P (e.geometry, e.numbers.first, e.absorbed) =
+      crash_around (e.numbers.first + (covers + n - 1) / n) (last_id e) (omega (arith, ordered.start, ordered.recorded, ordered.back, segments)) (omega arith) (closes.crash base h stands) in
       told_of P found taken e cache was

@@ -3,7 +3,7 @@ use Rattle.std.proofs.Common.{ℕ, ◌≡◌, ◌⊎◌, ◌≤◌, Bool, true, 
 use Rattle.wb_geometry.specs.Device.{Rose, CountsFaultsWhere}
 use Rattle.wb_geometry.specs.declared.which.Which.{Which}
 use Rattle.wb_geometry.specs.declared.which.Which.TheVariants.{Log, Backing}
-use Rattle.wb_geometry.proofs.Moments.{rose_later, later_rose}
+use Rattle.wb_geometry.proofs.Moments.{later_rose}
 use Rattle.wb_serve.specs.Playing.{FaultsWent}
 use Rattle.wb_serve.specs.Ending.{is_down_by}
 
@@ -70,7 +70,7 @@ end_rose {device} {fails} {fault} {down} {before} {mid} {now} went ends failed =
   | inl up ↦ later_rose before mid now went.later ((ends.cause up).failed failed)
   | inr is ↦
       let by : down ≡ Some device = is.1 ∙ sym (some_of _ ends.was_down is.1).0 ∙ failed in
-      rose_later before mid now (went.goes_down (λ none. cc) by) (end_later ends)
+      let rose = went.goes_down (λ none. cc) by in let later = end_later ends in omega (arith, rose, later)
 ]
 
 end_fine : {device : Which} {fails : ℕ} {fault down : Option Which} {before mid now : ℕ} → FaultsWent device fails None down before mid → FaultsEnd device fault down mid now

@@ -1,14 +1,14 @@
 -- How an engine goes on, from one step to the next.
 use Rattle.std.proofs.Common.{ℕ, ◌≡◌, ◌⊎◌, ◌+◌, ◌≤◌, List, [], ◌∷◌, ◌++◌, Option, Some, None, IfSome, Result, Ok, Err, inl, inr, refl, ap, sym, ◌∙◌, subst, arith, append-nil, append_assoc, length-append}
-use Rattle.std.proofs.lemmas.Option.{same_Some}
+use Rattle.std.proofs.lemmas.Option.{same_Some, none-some}
 use Rattle.std.proofs.lemmas.List.Elements.{All-contains_itself, Contains-append_left}
 use Rattle.wb_geometry.specs.Image.{Image}
-use Rattle.wb_geometry.specs.History.{HistoryEntry, PutsPartly}
+use Rattle.wb_geometry.specs.History.{HistoryEntry, Void, PutsPartly}
 use Rattle.wb_geometry.specs.Device.{State, ContentPasses, CountsFaultsWhere, IsSameDevice, OnlyRead}
 use Rattle.wb_geometry.specs.declared.which.Which.{Which}
 use Rattle.wb_geometry.specs.declared.which.Which.TheVariants.{Log, Backing}
 use Rattle.wb_geometry.proofs.Histories.{puts_then}
-use Rattle.wb_geometry.proofs.Moments.{content_same, content_joined, same_device, same_device_trans, rose_later, later_rose}
+use Rattle.wb_geometry.proofs.Moments.{content_same, content_joined, same_device, same_device_trans}
 use Rattle.wb_script.specs.Transcripts.{is_failure}
 use Rattle.wb_script.specs.declared.transcript.Line.TheVariants.{Failed}
 use Rattle.wb_crash.specs.declared.numbers.Numbers.{Numbers}
@@ -17,8 +17,10 @@ use Rattle.wb_engine.specs.Standing.{Standing, Told, IsSynced, IsSameEngine}
 use Rattle.wb_engine.specs.Stepping.{Moves}
 use Rattle.wb_engine.specs.Opening.{IsOnly}
 use Rattle.wb_engine.proofs.Among.{puts_among}
+use Rattle.wb_engine.proofs.Filling.{IsFilling}
+use Rattle.std.proofs.lemmas.List.{length-replicate}
 use Rattle.wb_serve.specs.Session.{RoseBy}
-use Rattle.wb_serve.specs.Playing.{IsSameCache, FaultsWent, HasMoved, HasCome}
+use Rattle.wb_serve.specs.Playing.{IsSameCache, FaultsWent, HasMoved, HasCome, voids}
 
 -- ---- a base image
 
@@ -82,8 +84,8 @@ faults_then {device} {m} {n} {a} {b} {c} {before} {mid} {now} kept first second 
   failed = rose_by_both before mid now m n first.failed second.failed;
   fine = λ none up. second.fine (omega (arith, none)) up ∙ first.fine (omega (arith, none)) (λ down. up (down_stays device kept down));
   goes_down = λ up down. elim (is_by b device) [
-    | inl by ↦ rose_later before mid now (first.goes_down up by) second.later
-    | inr not ↦ later_rose before mid now first.later (second.goes_down not down)
+    | inl by ↦ let went = first.goes_down up by in let more = second.failed in omega (arith, went, more)
+    | inr not ↦ let failed = first.failed in let went = second.goes_down not down in omega (arith, failed, went)
   ];
 }
 
@@ -142,9 +144,11 @@ module _ {L B : Type 0} {of_log : L → State} {of_backing : B → State} where
     same_backing = same_device_trans first.same_backing second.same_backing;
     kept = same_cache_trans first.kept second.kept;
     absorbed = omega (arith, first.absorbed, second.absorbed, length-append xs ys);
+    stable = omega (arith, first.stable, second.stable);
     log_faults = faults_then second.stays_down first.log_faults second.log_faults;
     backing_faults = faults_then second.stays_down first.backing_faults second.backing_faults;
     stays_down = stays e.down f.down g.down first.stays_down second.stays_down;
+    still = λ device down. second.still device (down_stays device first.stays_down down) ∙ first.still device down;
   }
 
   pub come_more : {start e f : EngineContent L B} {h xs : List HistoryEntry} {k l m n : ℕ}
@@ -176,9 +180,11 @@ module _ {L B : Type 0} {of_log : L → State} {of_backing : B → State} where
     same_backing = same_device (of_backing e.backing);
     kept = record { geometry = refl; first = refl };
     absorbed = omega arith;
+    stable = omega arith;
     log_faults = faults_none refl refl;
     backing_faults = faults_none refl refl;
     stays_down = still_down e.down e.down refl;
+    still = λ device down. refl;
   }
 
   -- a turn
@@ -193,17 +199,19 @@ module _ {L B : Type 0} {of_log : L → State} {of_backing : B → State} where
     same_backing = moves.same_backing;
     kept = record { geometry = moves.geometry; first = moves.first };
     absorbed = let kept = moves.absorbed in omega (arith, kept);
+    stable = moves.stable;
     log_faults = faults_turn log_faults;
     backing_faults = faults_turn backing_faults;
     stays_down = was_up e.down f.down up;
+    still = λ device down. absurd (none-some device (sym up ∙ down));
   }
 
   -- an entry that comes, for which neither device is called
   pub moved_entry : {e f : EngineContent L B} (entry : HistoryEntry)
       → ((base : Image) (history : List HistoryEntry) → Standing of_log of_backing e base history → Standing of_log of_backing f base (history ++ entry ∷ []))
-      → (IsSynced of_log of_backing e → IsSynced of_log of_backing f) → f.log ≡ e.log → f.backing ≡ e.backing → IsSameCache e f → f.absorbed ≡ e.absorbed + 1 → f.down ≡ e.down
-      → HasMoved of_log of_backing e f (entry ∷ []) 0 0
-  moved_entry {e} {f} entry stands synced same_log same_backing kept absorbed down = record {
+      → (IsSynced of_log of_backing e → IsSynced of_log of_backing f) → f.log ≡ e.log → f.backing ≡ e.backing → IsSameCache e f → f.absorbed ≡ e.absorbed + 1
+      → f.numbers.stable ≡ e.numbers.stable → f.down ≡ e.down → HasMoved of_log of_backing e f (entry ∷ []) 0 0
+  moved_entry {e} {f} entry stands synced same_log same_backing kept absorbed same_stable down = record {
     stands = stands;
     changed = λ base h is. content_same (λ x told. puts_none (h ++ entry ∷ []) x) (ap (λ (b : B). (of_backing b).content) same_backing);
     synced = synced;
@@ -211,9 +219,11 @@ module _ {L B : Type 0} {of_log : L → State} {of_backing : B → State} where
     same_backing = subst (λ (b : B). IsSameDevice (of_backing e.backing) (of_backing b)) (sym same_backing) (same_device (of_backing e.backing));
     kept = kept;
     absorbed = omega (arith, absorbed);
+    stable = omega (arith, same_stable);
     log_faults = faults_none down (ap (λ (l : L). (of_log l).faults) same_log);
     backing_faults = faults_none down (ap (λ (b : B). (of_backing b).faults) same_backing);
     stays_down = still_down e.down f.down down;
+    still = λ device by. same_stable;
   }
 
   -- a read, which may have failed
@@ -231,7 +241,26 @@ module _ {L B : Type 0} {of_log : L → State} {of_backing : B → State} where
     same_backing = backing_read.same;
     kept = record { geometry = same.geometry; first = ap (λ (n : Numbers). n.first) same.numbers };
     absorbed = let kept = same.absorbed in omega (arith, kept);
+    stable = let still = ap (λ (n : Numbers). n.stable) same.numbers in omega (arith, still);
     log_faults = log_faults;
     backing_faults = backing_faults;
     stays_down = still_down e.down f.down same.down;
+    still = λ device down. ap (λ (n : Numbers). n.stable) same.numbers;
+  }
+
+  -- places that a client fills, for which neither device is called
+  pub moved_filling : {e f : EngineContent L B} (client count : ℕ) → IsFilling of_log of_backing client e f count → HasMoved of_log of_backing e f (voids client count) 0 0
+  moved_filling {e} {f} client count fill = record {
+    stands = fill.stands;
+    changed = λ base h is. content_same (λ x told. puts_none (h ++ voids client count) x) (ap (λ (b : B). (of_backing b).content) fill.kept.backing);
+    synced = fill.synced;
+    same_log = subst (λ (l : L). IsSameDevice (of_log e.log) (of_log l)) (sym fill.kept.log) (same_device (of_log e.log));
+    same_backing = subst (λ (b : B). IsSameDevice (of_backing e.backing) (of_backing b)) (sym fill.kept.backing) (same_device (of_backing e.backing));
+    kept = record { geometry = fill.kept.geometry; first = fill.first };
+    absorbed = omega (arith, fill.absorbed, length-replicate count (Void client));
+    stable = let same = fill.stable in omega (arith, same);
+    log_faults = faults_none fill.kept.down (ap (λ (l : L). (of_log l).faults) fill.kept.log);
+    backing_faults = faults_none fill.kept.down (ap (λ (b : B). (of_backing b).faults) fill.kept.backing);
+    stays_down = still_down e.down f.down fill.kept.down;
+    still = λ device down. fill.stable;
   }

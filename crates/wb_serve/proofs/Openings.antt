@@ -1,5 +1,5 @@
 -- An engine that was just opened, from which a session begins.
-use Rattle.std.proofs.Common.{ℕ, ◌≡◌, ◌≤◌, [], Option, Some, None, refl, ap, sym, ◌∙◌, subst, arith}
+use Rattle.std.proofs.Common.{ℕ, ◌≡◌, [], Option, Some, None, refl, ap, sym, ◌∙◌, arith}
 use Rattle.std.specs.Option.{IsSome, IfSome, is_some}
 use Rattle.wb_geometry.specs.Image.{Image}
 use Rattle.wb_geometry.specs.Device.{State}

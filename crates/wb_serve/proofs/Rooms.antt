@@ -1,6 +1,6 @@
 -- Room for an entry, which turns make, and ids for its segment.
 use Rattle.std.proofs.Common.{ℕ, ◌≡◌, ◌+◌, ◌-◌, ◌*◌, ◌/◌, ◌<◌, ◌≤◌, ◌^◌, [], Some, None, Result, Ok, Err, inl, inr, refl, ap, sym, ◌∙◌, subst, arith}
-use Rattle.std.proofs.Math.Nat.{mul_comm, mul-div_cancel_left}
+use Rattle.std.proofs.Math.Nat.{mul_comm, mul-add, mul-div_cancel_left}
 use Rattle.std.proofs.lemmas.Bool.{cases_lt}
 use Rattle.std.proofs.lemmas.Nat.{mul-le, le-div}
 use Rattle.wb_geometry.specs.Layout.{places, segment_of}
@@ -47,11 +47,12 @@ not_less a b not = elim (cases_lt a b) [
   | inr more ↦ more
 ]
 
--- where there is no room all segments in memory are full
-pub all_full : (g : Geometry) (e : Numbers) (absorbed : ℕ) → limit_of g e ≤ absorbed → places g * g.ram ≤ absorbed
-all_full g e absorbed full =
-    let low : places g * g.ram ≤ places g * (e.logged - e.first + g.ram) = mul-le (places g) g.ram (places g) (e.logged - e.first + g.ram) (omega arith) (omega arith) in
-    omega (arith, low, full)
+-- where there is no room all segments in memory are full, behind those that are stable
+pub all_full : (g : Geometry) (e : Numbers) (absorbed : ℕ) → e.stable ≤ e.logged → limit_of g e ≤ absorbed → places g * (e.stable - e.first) + places g * g.ram ≤ absorbed
+all_full g e absorbed order full =
+    let low : places g * (e.stable - e.first + g.ram) ≤ places g * (e.logged - e.first + g.ram) =
+    mul-le (places g) (e.stable - e.first + g.ram) (places g) (e.logged - e.first + g.ram) (omega arith) (omega (arith, order)) in
+    omega (arith, low, full, mul-add (places g) (e.stable - e.first) g.ram)
 
 module _ {L B : Type 0} {of_log : L → State} {of_backing : B → State} where
   turn_order : (old new : EngineContent L B) (r : Result Turn Which) → InOrder old.numbers → IsTurn of_log of_backing old new r → InOrder new.numbers
@@ -129,13 +130,14 @@ module _ {L B : Type 0} {of_log : L → State} {of_backing : B → State} where
   -- the device that failed in the last of them is the one by which the engine is down, and there is no room still
   pub room_failed : (mid new : EngineContent L B) (r : Result Turn Which) (device : Which) → r ≡ Err device
       → Moves of_log of_backing mid new
-      → IsTurn of_log of_backing mid new r → limit_of mid.geometry mid.numbers ≤ mid.absorbed
-      → (new.down ≡ Some device) × (limit_of new.geometry new.numbers ≤ new.absorbed)
-  room_failed mid new r device failed moves did full =
+      → IsTurn of_log of_backing mid new r → InOrder mid.numbers → limit_of mid.geometry mid.numbers ≤ mid.absorbed
+      → (new.down ≡ Some device) × (limit_of new.geometry new.numbers ≤ new.absorbed) × (new.numbers.stable ≤ new.numbers.logged)
+  room_failed mid new r device failed moves did order full =
       let logged = none_logged mid new r device failed did in
       let limit : limit_of new.geometry new.numbers ≡ limit_of mid.geometry mid.numbers = cc (logged, moves.first, moves.geometry) in (
         down_by mid new r device failed did,
         omega (arith, limit, full, moves.absorbed),
+        (turn_order mid new r order did).3,
       )
 
   -- ---- ids

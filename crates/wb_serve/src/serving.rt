@@ -1,14 +1,18 @@
 //! Serving a script on one thread.
-ghost use Rattle.std.specs.Prelude.{◌≡◌, ◌≢◌, Err, IfOk, IfErr};
+ghost use Rattle.std.specs.Prelude.{◌≡◌, ◌≢◌, ◌≤◌, [], List, All, Err, IfOk, IfErr, OnOk};
+ghost use Rattle.wb_geometry.specs.History.{HistoryEntry};
 ghost use Rattle.wb_geometry.specs.Device.{CountsFaultsWhere};
 ghost use Rattle.wb_script.specs.Valid.{IsValid};
 ghost use Rattle.wb_super.specs.declared.reading.Super.{Super};
-ghost use Rattle.wb_engine.specs.Opening.{recovered_to};
 ghost use Rattle.wb_engine.specs.declared.opening.OpenCause.TheVariants.{Memory};
-ghost use Rattle.wb_serve.specs.Session.{devices, report_of, IsSession, IsUnserved, SaysLogFault, SaysBackingFault};
+ghost use Rattle.wb_serve.specs.Session.{devices, IsServed, EndFlushes, IsUnserved, SaysLogFault, SaysBackingFault};
+ghost use Rattle.wb_serve.specs.Playing.{HasCome, AreAllPlayed, AreAllPlayedInPart, none_played, tally_of, with_client};
+ghost use Rattle.wb_script.specs.Transcripts.{covered};
+ghost use Rattle.wb_engine.specs.Settling.{stable_places};
 ghost use Rattle.wb_serve.specs.Ending.{TellsOf, is_down_by};
 ghost use Rattle.wb_serve.specs.declared.serving.ServeStop.TheVariants.{Open};
 
+use crate::buffers::Buffers;
 use crate::playing::{Played, play};
 use std::alloc::{AllocError, Global};
 use wb_device::Device;
@@ -54,7 +58,7 @@ pub fn serve_plain<L: Device, B: Device>(
     script: &Script,
 ) -> Served<L, B>
     requires { IsValid script.now }
-    ensures session { IfOk result.answer (λ s. (found : Super) × IsSession found script.now (devices (L.state log) (B.state backing)) (devices (L.state result.log) (B.state result.backing)) (report_of s) × (s.first ≡ recovered_to found)) }
+    ensures session { IfOk result.answer (λ s. (found : Super) × IsServed found script.now (devices (L.state log) (B.state backing)) (devices (L.state result.log) (B.state result.backing)) s) }
     ensures unserved { IfErr result.answer (IsUnserved script.now (devices (L.state log) (B.state backing)) (devices (L.state result.log) (B.state result.backing))) }
     ensures log_cause { result.answer ≢ Err (Open Memory) → CountsFaultsWhere (SaysLogFault result.answer) (L.state log).faults (L.state result.log).faults }
     ensures backing_cause { result.answer ≢ Err (Open Memory) → CountsFaultsWhere (SaysBackingFault result.answer) (B.state backing).faults (B.state result.backing).faults }
@@ -78,21 +82,85 @@ pub fn serve_plain<L: Device, B: Device>(
             answer: Err(ServeStop::Changed { parsed, found }),
         };
     }
-    let played = play(alloc, &mut engine, 0, script.requests()[0].as_slice());
+    let played = play_all(alloc, &mut engine, script);
     let (first, places) = (engine.first(), engine.absorbed());
     let closed = engine.close();
     Served {
         log: closed.log,
         backing: closed.backing,
-        answer: session_of(alloc, played, first, places, closed.fault),
+        answer: session_of(played, first, places, closed.fault),
     }
+}
+
+/// What the requests of all clients left: their answers, whether one was stopped for want of an id, and whether a read failed
+/// on either device.
+#[derive(Drop)]
+pub struct AllPlayed {
+    pub transcripts: Vec<Transcript>,
+    pub ids: bool,
+    pub log_failed: bool,
+    pub backing_failed: bool,
+}
+
+impl AllPlayed {
+    /// No client yet, and room for so many.
+    fn with_capacity(alloc: Global, clients: usize) -> Result<AllPlayed, AllocError>
+        ensures { IfOk result (λ played. tally_of played ≡ none_played) }
+    {
+        Ok(AllPlayed {
+            transcripts: Vec::with_capacity(alloc, clients)?,
+            ids: false,
+            log_failed: false,
+            backing_failed: false,
+        })
+    }
+
+    /// Adds what the next client's requests left.
+    fn add(&mut self, played: Played) -> Result<(), AllocError>
+        ensures { OnOk result (tally_of self.new ≡ with_client (tally_of self.old) played) }
+    {
+        self.ids |= played.ids;
+        self.log_failed |= played.log_failed;
+        self.backing_failed |= played.backing_failed;
+        self.transcripts.push(played.transcript)?;
+        Ok(())
+    }
+}
+
+/// Answers the requests of all clients of a script over an engine that was just opened, one client after another.
+fn play_all<L: Device, B: Device>(
+    alloc: Global,
+    engine: &mut Engine<L, B>,
+    script: &Script,
+) -> Result<AllPlayed, AllocError>
+    requires valid { IsValid script.now }
+    requires fits { script.now.sectors ≤ engine.old.geometry.backing_sectors }
+    requires opened { HasCome L.state B.state engine.old engine.old [] 0 0 }
+    ensures played { IfOk result (λ played. (history : List HistoryEntry)
+        × AreAllPlayed L.state B.state script.now.requests engine.old engine.new (tally_of played) history
+        × (covered played.transcripts.items ≤ stable_places engine.new)
+        × All (EndFlushes engine.new.geometry engine.new.down (stable_places engine.new)) played.transcripts.items) }
+    ensures in_part { IfErr result (λ none. AreAllPlayedInPart L.state B.state script.now.requests engine.old engine.new) }
+{
+    let mut buffers = Buffers::new(alloc)?;
+    let mut all = AllPlayed::with_capacity(alloc, script.requests().len())?;
+    for (client, requests) in script.requests().iter().enumerate() {
+        let played = play(
+            alloc,
+            engine,
+            &mut buffers,
+            client as u32,
+            requests.as_slice(),
+        )?;
+        all.add(played)?;
+    }
+    Ok(all)
 }
 
 /// What a session tells, where its requests were played: beside them these numbers, and the device that failed in a write or
 /// a sync, if one did.
 fn session_of(
-    alloc: Global,
-    played: Result<Played, AllocError>,
+    played: Result<AllPlayed, AllocError>,
     first: u64,
     places: u64,
     fault: Option<Which>,
@@ -103,11 +171,8 @@ fn session_of(
     let Ok(played) = played else {
         return Err(ServeStop::Open(OpenCause::Memory));
     };
-    let Ok(transcripts) = vec![in alloc; played.transcript] else {
-        return Err(ServeStop::Open(OpenCause::Memory));
-    };
     Ok(Session {
-        transcripts,
+        transcripts: played.transcripts,
         places,
         first,
         ids: played.ids,

@@ -89,7 +89,7 @@ fn is_answered(answer: &Result<Session, ServeStop>) -> bool {
             && session
                 .transcripts
                 .iter()
-                .all(|transcript| transcript.as_slice().len() == 8),
+                .all(|transcript| transcript.len() == 8),
         Err(_) => false,
     }
 }

@@ -5,7 +5,7 @@ use Rattle.wb_geometry.specs.Image.{Image}
 use Rattle.wb_geometry.specs.Layout.{log_sectors}
 use Rattle.wb_geometry.specs.Layout as layout
 use Rattle.wb_geometry.proofs.Geometries.{places_few}
-use Rattle.wb_tool.proofs.Few.{few_places}
+use Rattle.wb_script.proofs.Validity.{few_requests}
 use Rattle.wb_geometry.specs.Device.{State, IsDevice}
 use Rattle.wb_geometry.specs.declared.geometry.Geometry.{Geometry}
 use Rattle.wb_super.specs.Superblock.{SuperText, record_of, header_id}
@@ -91,13 +91,14 @@ not_spent : (before after : Devices) (g : Geometry) (image : Image) (input : Lis
     → IsReady before.log g image → IsScript g.backing_sectors (script_bytes input) script
     → IsSession found script before after report → report.ids ≡ true → ⊥
 not_spent before after g image input script found report ready good session spent =
-    let few = few_places g.backing_sectors (script_bytes input) script report.transcripts report.taken session.history good session.printed in
+    let few = few_requests g.backing_sectors (script_bytes input) script good in
+    let places_taken = session.few in
     let all = (session.ids_spent (session.ids_told spent)).1 in
     let each = (places_few found.geometry).0 in
     let slots = ap (λ (h : Geometry). h.slots) (same_geometry before.log image g found ready.told ready.text session.opened.super) in
     let left : 2 ^ 26 ≤ 2 ^ 48 - recovered_to found = omega (arith, same_record before.log g image found ready session.opened.super, ready.ids, slots) in
     let more : 1 * (2 ^ 48 - recovered_to found) ≤ layout.places found.geometry * (2 ^ 48 - recovered_to found) = mul-le-mul_right (2 ^ 48 - recovered_to found) each in
-    omega (arith, few, all, left, more)
+    omega (arith, few, places_taken, all, left, more)
 
 -- the status isn't that of a log that failed
 not_at_6 : (r : Run) → ServeAccount r → NoFault r → r.status ≡ 6 → ⊥

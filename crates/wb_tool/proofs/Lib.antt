@@ -6,7 +6,6 @@ pub mod Sessions
 pub mod Stops
 pub mod Sources
 pub mod Unserved
-pub mod Few
 pub mod Words
 pub mod Shapes
 pub mod Accounts

@@ -95,12 +95,15 @@ session_before old mid after found script report read kept session = record {
   history = session.history;
   printed = session.printed;
   only = session.only;
+  few = session.few;
   legal = λ content is. session.legal content (bases_after old mid found content read is);
   log_failures = rw kept at session.log_failures;
   backing_failures = session.backing_failures;
   down_full = session.down_full;
   down_log = session.down_log;
   down_backing = session.down_backing;
+  undone_log = session.undone_log;
+  undone_backing = session.undone_backing;
   ids_told = session.ids_told;
   ids_spent = session.ids_spent;
   changed = λ base is. session.changed base (base_after old mid found base read is);
@@ -118,6 +121,7 @@ cut_before old mid after found script read kept short = record {
   answered = short.answered;
   cut = short.cut;
   report = short.report;
+  none = short.none;
   session = session_before old mid after found (record script { requests = short.answered }) short.report read kept short.session;
 }
 

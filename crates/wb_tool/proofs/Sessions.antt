@@ -4,6 +4,7 @@ use Rattle.wb_geometry.specs.Device.{CountsFaultsWhere}
 use Rattle.wb_super.specs.declared.reading.Super.{Super}
 use Rattle.wb_script.specs.Content.{ScriptContent}
 use Rattle.wb_script.specs.Output.{session_text}
+use Rattle.wb_script.specs.Transcripts.{covered}
 use Rattle.wb_serve.specs.Session.{Report, IsSession}
 use Rattle.wb_serve.proofs.Servings.{cut_nowhere}
 use Rattle.wb_tool.specs.Run.{Lent, Run, EndsTelling}
@@ -57,7 +58,7 @@ backing_is_7 sink status text places ids log_failed backing_failed some other (i
 
 module _ (script : ScriptContent) (run : Run) (found : Super) (ids log_failed backing_failed : Bool) where
   abbrev told : Report
-  told = record { transcripts = run.transcripts; taken = run.places; ids = ids; log_failed = log_failed; backing_failed = backing_failed }
+  told = record { transcripts = run.transcripts; taken = run.places; covered = covered run.transcripts; ids = ids; log_failed = log_failed; backing_failed = backing_failed }
 
   abbrev text : List ℕ
   text = session_text script run.transcripts run.places

@@ -5,7 +5,7 @@ use Rattle.std.specs.Fmt.{decimal}
 use Rattle.std.proofs.lemmas.Grind.{flat_map-append}
 use Rattle.wb_header.specs.Text.{id_in, length_in, sum_in}
 use Rattle.wb_script.specs.Output.{newline}
-use Rattle.wb_tool.specs.Texts.{sum_text}
+use Rattle.wb_script.specs.Output.{sum_text}
 use Rattle.wb_tool.specs.SlotTexts.{slot_name, segment_line, entry_line, entries_text}
 use Rattle.wb_tool.proofs.Shapes.{segment_shape}
 

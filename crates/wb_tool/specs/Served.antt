@@ -4,6 +4,7 @@ use Rattle.wb_geometry.specs.declared.which.Which.TheVariants.{Log, Backing}
 use Rattle.wb_super.specs.declared.reading.Super.{Super}
 use Rattle.wb_script.specs.Content.{ScriptContent}
 use Rattle.wb_script.specs.Output.{session_text}
+use Rattle.wb_script.specs.Transcripts.{covered}
 use Rattle.wb_serve.specs.Session.{IsSession}
 use Rattle.wb_tool.specs.Run.{Lent, Run, Took, EndsTelling}
 use Rattle.wb_tool.specs.Texts.{failed_line, spent_line}
@@ -30,6 +31,7 @@ pub record Served (script : ScriptContent) (run : Run) : Type 0 where
   pub session : IsSession found script run.before run.after (record {
     transcripts = run.transcripts;
     taken = run.places;
+    covered = covered run.transcripts;
     ids = ids;
     log_failed = log_failed;
     backing_failed = backing_failed;

@@ -11,7 +11,7 @@ use Rattle.wb_header.specs.Refused.{Refuses, front_of}
 use Rattle.wb_header.specs.declared.checking.Refused.{Refused}
 use Rattle.wb_header.specs.declared.checking.Refused.TheVariants as refused
 use Rattle.wb_script.specs.Output.{newline}
-use Rattle.wb_tool.specs.Texts.{sum_text}
+use Rattle.wb_script.specs.Output.{sum_text}
 
 -- the bytes of a slot
 abbrev pub slot_bytes : Geometry → ℕ → Image → List ℕ

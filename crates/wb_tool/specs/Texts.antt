@@ -1,15 +1,13 @@
 -- The fault lines, and the lines that `format` and `inspect` answer.
 use Rattle.std.specs.Prelude.{ℕ, List, [], ◌++◌, codes}
 use Rattle.std.specs.Fmt.{decimal}
-use Rattle.std.specs.Int.{w32, to_be_bytes}
-use Rattle.hex.specs.Hex.{encode_lower}
 use Rattle.wb_geometry.specs.declared.geometry.Geometry.{Geometry}
 use Rattle.wb_geometry.specs.declared.which.Which.{Which}
 use Rattle.wb_geometry.specs.declared.which.Which.TheVariants.{Log}
 use Rattle.wb_super.specs.declared.reading.Super.{Super}
 use Rattle.wb_super.specs.declared.reading.SuperRefused.{SuperRefused}
 use Rattle.wb_super.specs.declared.reading.SuperRefused.TheVariants as refused
-use Rattle.wb_script.specs.Output.{newline, cause_text, device_name}
+use Rattle.wb_script.specs.Output.{newline, cause_text, device_name, sum_text}
 use Rattle.wb_script.specs.declared.refusal.Cause.{Cause}
 
 abbrev pub usage_line : List ℕ
@@ -42,10 +40,6 @@ changed_line parsed found = codes "wblog: log image: changed " ++ decimal parsed
 -- a slot of the log has an id that is too high
 abbrev pub stray_line : (slot id : ℕ) → List ℕ
 stray_line slot id = codes "wblog: log image: stray slot " ++ decimal slot ++ codes " id " ++ decimal id ++ newline
-
--- a checksum: eight hexadecimal digits, the highest first
-abbrev pub sum_text : ℕ → List ℕ
-sum_text sum = encode_lower (to_be_bytes w32 sum)
 
 -- why the bytes of a log image are refused
 abbrev pub image_cause : SuperRefused → List ℕ

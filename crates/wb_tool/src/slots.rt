@@ -11,11 +11,12 @@ ghost use Rattle.wb_tool.specs.SlotTexts.{TellsSlot, segment_line, entry_line, e
 
 use crate::opening::refuse_log;
 use crate::status;
-use crate::texts::{LOG_FAILED, answer, sum_text, tell};
+use crate::texts::{LOG_FAILED, answer, tell};
 use std::alloc::{AllocError, Global};
 use wb_device::{Device, DeviceFault, Sink};
 use wb_geometry::Geometry;
 use wb_header::{Found, Meta, Refused, check, header_id};
+use wb_script::sum_text;
 use wb_super::{Super, read_super};
 
 /// The bytes of a sector.

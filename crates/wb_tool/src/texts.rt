@@ -2,13 +2,13 @@
 ghost use Rattle.std.specs.Prelude.{◌≡◌, IfOk};
 ghost use Rattle.std.specs.String.{string_bytes};
 ghost use Rattle.wb_tool.specs.Run.{lent, Took, EndsTelling};
-ghost use Rattle.wb_tool.specs.Texts.{small_line, refused_line, spent_record_line, spent_line, changed_line, stray_line, sum_text, super_line, geometry_text, formatted_line, inspected_line};
+ghost use Rattle.wb_tool.specs.Texts.{small_line, refused_line, spent_record_line, spent_line, changed_line, stray_line, super_line, geometry_text, formatted_line, inspected_line};
 
 use crate::status;
 use std::alloc::{AllocError, Global};
 use wb_device::Sink;
 use wb_geometry::{Geometry, Which};
-use wb_script::ScriptRefused;
+use wb_script::{ScriptRefused, sum_text};
 use wb_super::{Super, SuperRefused};
 
 pub const USAGE: &str = "wblog: usage\n";
@@ -87,13 +87,6 @@ pub fn super_text(alloc: Global, refused: SuperRefused) -> Result<String, AllocE
         SuperRefused::Geometry => String::from_str(alloc, "wblog: log image: geometry\n"),
         SuperRefused::Record(found) => format!(in alloc; "wblog: log image: record {found}\n"),
     }
-}
-
-/// A checksum in eight hexadecimal digits.
-pub fn sum_text(alloc: Global, sum: u32) -> Result<String, AllocError>
-    ensures { IfOk result (λ text. string_bytes text ≡ sum_text sum) }
-{
-    hex::encode(alloc, &sum.to_be_bytes())
 }
 
 /// The numbers of a geometry, each behind its name.

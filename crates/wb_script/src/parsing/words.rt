@@ -2,34 +2,37 @@
 ghost use Rattle.std.specs.Prelude.{◌≡◌, ◌≢◌, ◌<◌, ◌^◌, ◌↔◌, ℕ, IsTrue, MatchOption, length, map, take, slice_index};
 ghost use Rattle.std.specs.Fmt.{decimal};
 ghost use Rattle.wb_script.specs.Grammar.{words};
+ghost use Rattle.wb_script.specs.Commands.{word};
 
 use std::marker::Model;
 
-/// How many words of a line are read: one more than any request has.
+/// How many words of a line are kept: one more than any request has.
 const MOST_WORDS: usize = 6;
 
-/// The first words of a line. Where there are fewer than `MOST_WORDS`, they are all of its words.
+/// The words of a line. The first of them are kept.
 #[derive(Drop)]
 pub(super) struct Words<'a> {
+    line: &'a [u8],
     first: [&'a [u8]; MOST_WORDS],
     count: usize,
 }
 
 impl<'a> Model for Words<'a> {
-    ghost use Rattle.std.specs.Prelude.{◌≤◌, ℕ, List, map, take};
+    ghost use Rattle.std.specs.Prelude.{◌≡◌, ℕ, List, length, map, take};
+    ghost use Rattle.wb_script.specs.Grammar.{words};
     ghost use Rattle.wb_script.specs.declared.parsing.words.TheConstants.{MOST_WORDS};
 
     ghost Value = { List (List ℕ) };
 
-    ghost view = { λ w. map (λ word. word.now) (take w.count w.first) };
+    ghost view = { λ w. words w.line.now };
 
-    ghost invariant = { λ w. w.count ≤ MOST_WORDS };
+    ghost invariant = { λ w. (w.count ≡ length (take MOST_WORDS (words w.line.now))) × (map (λ word. word.now) (take w.count w.first) ≡ take MOST_WORDS (words w.line.now)) };
 }
 
 impl<'a> Words<'a> {
-    /// The first words of this line.
+    /// The words of this line.
     pub(super) fn of(line: &'a [u8]) -> Words<'a>
-        ensures { result ≡ take MOST_WORDS (words line.now) }
+        ensures { result ≡ words line.now }
     {
         let mut first: [&[u8]; MOST_WORDS] = [&[]; MOST_WORDS];
         let mut count = 0;
@@ -37,14 +40,30 @@ impl<'a> Words<'a> {
             first[count] = word;
             count += 1;
         }
-        Words { first, count }
+        Words { line, first, count }
     }
 
-    /// The words in order.
-    pub(super) fn as_slice(&self) -> &[&'a [u8]]
-        ensures { map (λ word. word.now) result.now ≡ self.now }
+    /// The word of this number, counted from 0, or an empty one where there are fewer.
+    pub(super) fn get(&self, index: usize) -> &'a [u8]
+        requires { index < MOST_WORDS }
+        ensures { result.now ≡ word self.now index }
     {
-        &self.first[..self.count]
+        if index < self.count {
+            self.first[index]
+        } else {
+            &[]
+        }
+    }
+
+    /// The number of words.
+    pub(super) fn len(&self) -> usize
+        ensures { result ≡ length self.now }
+    {
+        if self.count < MOST_WORDS {
+            self.count
+        } else {
+            self.line.split(|byte| *byte == b' ').count()
+        }
     }
 }
 

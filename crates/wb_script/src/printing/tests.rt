@@ -1,13 +1,220 @@
-//! Tests of `print`. Each kind of line is shown by the examples and by the tests of the top call.
+//! Tests of `print`, and of each kind of line. What a transcript gave back is printed, and not what was pushed.
+use super::line::push_line;
 use super::{PIECE_BYTES, PrintStop, print};
-use crate::{Line, Request, Requests, Script, Stop, Transcript};
+use crate::{Ended, Line, Pattern, Request, Requests, Script, Shown, Stop, Taken, Transcript};
 use std::alloc::{AllocError, Global};
 use std::process::Abort;
 use std::test::Fail;
 use wb_device::MemorySink;
 use wb_geometry::{Places, Which};
 
-/// A script of one client, and its answers.
+/// The text of a line of client 3, once a transcript kept it.
+fn text_of(alloc: Global, request: &Request, line: &Line<'_>) -> Result<String, AllocError> {
+    let mut transcript = Transcript::with_capacity(alloc, 1)?;
+    transcript.push(alloc, line)?;
+    let mut text = String::new(alloc);
+    if let Some(kept) = transcript.get(0) {
+        push_line(alloc, &mut text, 3, request, &kept)?;
+    }
+    Ok(text)
+}
+
+/// The line is printed so.
+fn prints(
+    rt: &impl Abort,
+    alloc: Global,
+    request: &Request,
+    line: &Line<'_>,
+    text: &str,
+) -> Result<(), AllocError> {
+    let found = text_of(alloc, request, line)?;
+    assert_eq!(rt; found.as_str(), text);
+    Ok(())
+}
+
+/// A write of the sectors 6 to 8.
+fn write(alloc: Global, fua: bool) -> Result<Request, AllocError> {
+    let pattern = Pattern::of(vec![in alloc; 0xaa; 1]?);
+    let (sector, count) = (6, 3);
+    Ok(Request::Write {
+        sector,
+        count,
+        pattern,
+        fua,
+    })
+}
+
+/// The end of a flush.
+fn ended(down: Option<Which>) -> Ended {
+    Ended {
+        through: 3,
+        voids: 1,
+        down,
+    }
+}
+
+/// The places that a write took: place 14, and place 17 where there is a second.
+fn places(second: bool) -> Places {
+    let mut places = Places::new();
+    places.push(14);
+    if second {
+        places.push(17);
+    }
+    places
+}
+
+#[test]
+fn writes_are_printed(rt: HostRuntime) -> Result<(), Fail> {
+    let request = write(rt.alloc(), false)?;
+    let wrote = |places, stop| Line::Wrote {
+        places: Taken::of(places),
+        stop,
+    };
+    prints(
+        &rt,
+        rt.alloc(),
+        &request,
+        &wrote(places(true), Stop::Whole),
+        "3 w 6 3 at 14 17\n",
+    )?;
+    prints(
+        &rt,
+        rt.alloc(),
+        &request,
+        &wrote(places(false), Stop::Ids),
+        "3 w 6 3 at 14 ids\n",
+    )?;
+    let (none, device) = (Places::new(), Which::Backing);
+    let stop = Stop::Down { device };
+    prints(
+        &rt,
+        rt.alloc(),
+        &request,
+        &wrote(none, stop),
+        "3 w 6 3 down backing\n",
+    )?;
+    Ok(())
+}
+
+#[test]
+fn forced_writes_are_printed(rt: HostRuntime) -> Result<(), Fail> {
+    let request = write(rt.alloc(), true)?;
+    let whole = Line::Forced {
+        places: Taken::of(places(true)),
+        flush: Some(ended(None)),
+        stop: Stop::Whole,
+    };
+    prints(
+        &rt,
+        rt.alloc(),
+        &request,
+        &whole,
+        "3 u 6 3 at 14 17 through 3 voids 1\n",
+    )?;
+    let device = Which::Log;
+    let stopped = Line::Forced {
+        places: Taken::of(places(false)),
+        flush: None,
+        stop: Stop::Down { device },
+    };
+    prints(
+        &rt,
+        rt.alloc(),
+        &request,
+        &stopped,
+        "3 u 6 3 at 14 down log\n",
+    )?;
+    Ok(())
+}
+
+#[test]
+fn reads_are_printed(rt: HostRuntime) -> Result<(), Fail> {
+    let (sector, count, point) = (63, 1, 4);
+    let read = Request::Read { sector, count };
+    let got = Line::Got {
+        point,
+        payload: Shown::of(b"\x5a\x0f\x5a\x0f"),
+    };
+    prints(&rt, rt.alloc(), &read, &got, "3 r 63 1 point 4 5a0f\n")?;
+    let sum_read = Request::ReadSum { sector, count };
+    let sum = 0x0d_1234;
+    prints(
+        &rt,
+        rt.alloc(),
+        &sum_read,
+        &Line::Summed { point, sum },
+        "3 x 63 1 point 4 000d1234\n",
+    )?;
+    let device = Which::Log;
+    prints(
+        &rt,
+        rt.alloc(),
+        &sum_read,
+        &Line::Failed { device },
+        "3 x 63 1 fault log\n",
+    )?;
+    Ok(())
+}
+
+#[test]
+fn flushes_and_notes_are_printed(rt: HostRuntime) -> Result<(), Fail> {
+    let flushed = Line::Flushed { ended: ended(None) };
+    prints(
+        &rt,
+        rt.alloc(),
+        &Request::Flush,
+        &flushed,
+        "3 f through 3 voids 1\n",
+    )?;
+    let deferred = Line::Deferred {
+        ended: ended(Some(Which::Log)),
+    };
+    prints(
+        &rt,
+        rt.alloc(),
+        &Request::Defer,
+        &deferred,
+        "3 q through 3 voids 1 down log\n",
+    )?;
+    prints(
+        &rt,
+        rt.alloc(),
+        &Request::Tell { client: 5 },
+        &Line::Told,
+        "3 t 5\n",
+    )?;
+    prints(
+        &rt,
+        rt.alloc(),
+        &Request::Hear { client: 0 },
+        &Line::Heard,
+        "3 h 0\n",
+    )?;
+    Ok(())
+}
+
+/// A posted flush is marked where its number, 3, is above this one.
+fn marked(alloc: Global, stable: u64) -> Result<String, AllocError> {
+    let mut transcript = Transcript::with_capacity(alloc, 1)?;
+    transcript.push(alloc, &Line::Deferred { ended: ended(None) })?;
+    transcript.mark_deferred(stable, Which::Backing);
+    let mut text = String::new(alloc);
+    if let Some(line) = transcript.get(0) {
+        push_line(alloc, &mut text, 0, &Request::Defer, &line)?;
+    }
+    Ok(text)
+}
+
+#[test]
+fn posted_flushes_are_marked(rt: HostRuntime) -> Result<(), Fail> {
+    let done = marked(rt.alloc(), 3)?;
+    assert!(rt; done.as_str() == "0 q through 3 voids 1\n");
+    let cut = marked(rt.alloc(), 2)?;
+    assert!(rt; cut.as_str() == "0 q through 3 voids 1 down backing\n");
+    Ok(())
+}
+
+/// A script of two clients, and their answers.
 #[derive(Drop)]
 struct Session {
     script: Script,
@@ -15,15 +222,17 @@ struct Session {
 }
 
 impl Session {
-    fn of(
-        alloc: Global,
-        requests: Vec<Request>,
-        answers: Transcript,
-    ) -> Result<Session, AllocError> {
-        let requests = vec![in alloc; Requests::of(requests)]?;
+    /// The second client makes no request.
+    fn of(alloc: Global, requests: Requests, answers: Transcript) -> Result<Session, AllocError> {
+        let mut all = Vec::new(alloc);
+        all.push(requests)?;
+        all.push(Requests::new(alloc))?;
+        let mut transcripts = Vec::new(alloc);
+        transcripts.push(answers)?;
+        transcripts.push(Transcript::with_capacity(alloc, 0)?)?;
         Ok(Session {
-            script: Script::of(1, 64, requests),
-            transcripts: vec![in alloc; answers]?,
+            script: Script::of(2, 64, all),
+            transcripts,
         })
     }
 
@@ -33,37 +242,18 @@ impl Session {
     }
 }
 
-/// Adds a read of a sector, and its answer.
-fn add(
-    requests: &mut Vec<Request>,
-    answers: &mut Transcript,
-    sector: u64,
-    line: Line,
-) -> Result<(), AllocError> {
-    requests.push(Request::Read { sector, count: 1 })?;
-    answers.push(line)
-}
-
-/// Adds an answer that doesn't fit, which isn't printed, and so many failed reads.
-fn add_failures(
-    requests: &mut Vec<Request>,
-    answers: &mut Transcript,
-    count: u32,
-) -> Result<(), AllocError> {
-    let (places, stop) = (Places::new(), Stop::Whole);
-    add(requests, answers, 1, Line::Wrote { places, stop })?;
+/// A session with so many failed reads.
+fn failures(alloc: Global, count: usize) -> Result<Session, AllocError> {
+    let mut requests = Requests::new(alloc);
+    let mut answers = Transcript::with_capacity(alloc, count)?;
     for _ in 0..count {
         let device = Which::Log;
-        add(requests, answers, 5, Line::Failed { device })?;
+        requests.push(Request::Read {
+            sector: 5,
+            count: 1,
+        })?;
+        answers.push(alloc, &Line::Failed { device })?;
     }
-    Ok(())
-}
-
-/// A session with so many failed reads.
-fn failures(alloc: Global, count: u32) -> Result<Session, AllocError> {
-    let mut requests = Vec::new(alloc);
-    let mut answers = Transcript::with_capacity(alloc, 0)?;
-    add_failures(&mut requests, &mut answers, count)?;
     Session::of(alloc, requests, answers)
 }
 

@@ -16,7 +16,7 @@ returns-then-bytes-gt-MOST_BYTES-clause-refused c =
       | inr more ↦ inr (omega (arith, more.1))
     ] in
     let refusal : c.refused.result ≡ Refused (record { line = 0; cause = Size (length bytes) (length (lines bytes)) }) = cc in
-    subst (HasRefusal c.args.g.now.backing_sectors bytes) (sym refusal) (the_refusal _ bytes 0 _ (IsRefused-size _ bytes many))
+    subst (HasRefusal c.args.g.now.backing_sectors bytes) (sym refusal) (the_refusal _ bytes 0 _ (omega arith) (IsRefused-size _ bytes many))
 
 pub returns-in_default-clause-refused : goal.returns-in_default-clause-refused
 unfolding words_at
@@ -24,7 +24,7 @@ returns-in_default-clause-refused c =
     let bytes = c.args.bytes.now in
     let none = rw c.first_line.ensures at c.in_default.ensures in
     subst (HasRefusal c.args.g.now.backing_sectors bytes) (sym c.refused-in_default.ensures)
-    (the_refusal _ bytes 1 Header (IsRefused-header _ bytes (omega arith) (omega (arith, c.line_count-count.ensures)) none))
+    (the_refusal _ bytes 1 Header (omega arith) (IsRefused-header _ bytes (omega arith) (omega (arith, c.line_count-count.ensures)) none))
 
 pub read_script-requires-clause-header : goal.read_script-requires-clause-header
 unfolding words_at

@@ -1,68 +1,96 @@
--- The invariant says what was printed so far, and that the lines of what the iterator has left are the rest.
-use Rattle.std.proofs.Common.{◌≡◌, ◌++◌, ◌∷◌, [], ◌∙◌, sym, ap, refl, List, ℕ, append_assoc, append-nil, ◌⊎◌, inl, inr}
+-- The invariant says what was printed so far, and that the lines from the index on are the rest.
+use Rattle.std.proofs.Common.{◌≡◌, ◌++◌, ◌∷◌, ◌+◌, ◌<◌, ◌≤◌, [], ◌∙◌, sym, ap, refl, List, ℕ, length, drop, get_or, Some, None, append_assoc, append-nil, inl, inr}
+use Rattle.std.specs.List.{slice_get}
 use Rattle.std.specs.String.{string_bytes}
-use Rattle.std.specs.Slice.Iter.{iter_rest}
-use Rattle.std.specs.Iterator.Adapters.{zip_first, zip_second}
-use Rattle.std.proofs.lemmas.Slice.Zip.{Zip-more, either_empty_from_Zip}
+use Rattle.std.proofs.lemmas.List.{drop_more, drop_all}
+use Rattle.std.proofs.lemmas.Option.{slice_get_within, slice_get-get_or, get_or_from_slice_get}
+use Rattle.std.proofs.lemmas.Bool.{cases_lt}
 use Rattle.std.proofs.lemmas.Result.{err_from_is_err_and}
 use Rattle.wb_script.specs.Output.{line_text, transcript_text}
 use Rattle.wb_script.specs.declared.request.Request.{Request}
 use Rattle.wb_script.specs.declared.transcript.Line.{Line}
+use Rattle.wb_script.specs.declared.transcript.Line.TheVariants as line
 use Rattle.wb_script.proofs.Pieces.{printed_held, printed_then, printed_moved, printed_same, prints_ok, prints_memory, prints_stopped}
 use Rattle.wb_script.proofs.printing.print_client.Goals as goal
 
 -- one line more
-lines_more : {requests requests' : List Request} {lines lines' : List Line} {request : Request} {line : Line} {whole : List ℕ} (client : ℕ) (done : List ℕ) → (requests ≡ request ∷ requests') × (lines ≡ line ∷ lines') → done ++ transcript_text client requests lines ≡ whole → (done ++ line_text client request line) ++ transcript_text client requests' lines' ≡ whole
-lines_more {requests'} {lines'} {request} {line} client done step e =
-    append_assoc done (line_text client request line) (transcript_text client requests' lines')
-    ∙ ap (λ t. done ++ t) (rw (step.0, step.1) refl)
+lines_more : {whole : List ℕ} (client : ℕ) (requests : List Request) (lines : List Line) (index : ℕ) (request : Request) (line : Line) (done : List ℕ) → index < length requests → get_or requests index request ≡ request → slice_get lines index ≡ Some line → done ++ transcript_text client (drop index requests) (drop index lines) ≡ whole → (done ++ line_text client request line) ++ transcript_text client (drop (index + 1) requests) (drop (index + 1) lines) ≡ whole
+lines_more client requests lines index request line done within here there e =
+    let own : drop index requests ≡ request ∷ drop (index + 1) requests = drop_more requests index request within ∙ ap (λ (r : Request). r ∷ drop (index + 1) requests) here in
+    let answer : drop index lines ≡ line ∷ drop (index + 1) lines = drop_more lines index line (slice_get_within lines index line there) ∙ ap (λ (l : Line). l ∷ drop (index + 1) lines) (get_or_from_slice_get lines index line line there) in
+    append_assoc done (line_text client request line) (transcript_text client (drop (index + 1) requests) (drop (index + 1) lines))
+    ∙ ap (λ t. done ++ t) (rw (own, answer) refl)
     ∙ e
 
--- no line is left where one of the two lists has ended
-lines_end : {whole : List ℕ} (client : ℕ) (requests : List Request) (lines : List Line) (done : List ℕ) → (requests ≡ []) ⊎ (lines ≡ []) → done ++ transcript_text client requests lines ≡ whole → done ≡ whole
-lines_end client [] lines done ended e = sym (append-nil done) ∙ e
-lines_end client (request ∷ requests) [] done ended e = sym (append-nil done) ∙ e
-lines_end client (request ∷ requests) (line ∷ lines) done (inl none) e = cc
-lines_end client (request ∷ requests) (line ∷ lines) done (inr none) e = cc
+-- no line is left where the requests have ended
+lines_end : {whole : List ℕ} (client : ℕ) (requests : List Request) (lines : List Line) (index : ℕ) (done : List ℕ) → length requests ≤ index → done ++ transcript_text client (drop index requests) (drop index lines) ≡ whole → done ≡ whole
+lines_end client requests lines index done ended e = sym (append-nil done) ∙ ap (λ t. done ++ t) (rw (drop_all index requests ended) refl) ∙ e
 
-pub loop-request-init : goal.loop-request-init
-loop-request-init g c = record {
+text_none : (client : ℕ) (requests : List Request) → transcript_text client requests [] ≡ []
+text_none client [] = refl
+text_none client (request ∷ requests) = refl
+
+-- or the lines
+lines_none : {whole : List ℕ} (client : ℕ) (requests : List Request) (lines : List Line) (index : ℕ) (done : List ℕ) → length lines ≤ index → done ++ transcript_text client (drop index requests) (drop index lines) ≡ whole → done ≡ whole
+lines_none client requests lines index done ended e =
+    sym (append-nil done) ∙ ap (λ t. done ++ t) (rw (drop_all index lines ended) (sym (text_none client (drop index requests)))) ∙ e
+
+ended : (lines : List Line) (index : ℕ) → slice_get lines index ≡ None → length lines ≤ index
+ended lines index none =
+    elim (cases_lt index (length lines)) [
+      | inl within ↦ cc (slice_get-get_or lines index line.Told within, none)
+      | inr past ↦ past
+    ]
+
+pub loop-index-init : goal.loop-index-init
+loop-index-init g c = record {
   done = [];
   printed = printed_held (string_bytes c.args.text.now) [] (sym (append-nil (string_bytes c.args.text.now)));
-  rest =
-      ap (λ r. transcript_text c.args.client r (iter_rest (zip_second c.into_iter-request-iterator.result)))
-      (ap (λ z. iter_rest (zip_first z)) c.into_iter-request-iterator.ensures.into_iter_gives ∙ ap iter_rest c.zip-request-items.ensures.first ∙ c.iter.ensures.rest)
-      ∙ ap (λ l. transcript_text c.args.client c.args.requests.now l)
-      (ap (λ z. iter_rest (zip_second z)) c.into_iter-request-iterator.ensures.into_iter_gives ∙ c.zip-request-items.ensures.second.0);
+  rest = refl;
 }
 
 pub returns-in_err-push_line : goal.returns-in_err-push_line
 returns-in_err-push_line g c =
     let p = err_from_is_err_and c.from_residual.result c.from_residual.ensures.1 in
     rw (p.1, p.2)
-    (prints_memory (transcript_text c.args.client (iter_rest (zip_first c.loop-request.request-iterator)) (iter_rest (zip_second c.loop-request.request-iterator))) c.loop-request.invariant.printed c.loop-request.invariant.rest)
+    (prints_memory (transcript_text c.args.client (drop c.loop-index.index c.args.requests.now) (drop c.loop-index.index c.args.transcript.now)) c.loop-index.invariant.printed c.loop-index.invariant.rest)
 
 pub returns-in_err-write_if_full : goal.returns-in_err-write_if_full
 returns-in_err-write_if_full g c =
     let p = err_from_is_err_and c.from_residual-in_err-write_if_full.result c.from_residual-in_err-write_if_full.ensures.1 in
-    let step = Zip-more c.loop-request.request-iterator c.next.new.self c.next.result (c.in-Some.request, c.in-Some.line) c.in-Some.is c.next.ensures.steps in
-    let rest = lines_more c.args.client c.loop-request.invariant.done step c.loop-request.invariant.rest in
+    let text = line_text c.args.client c.index-requests-index.result c.in-Some.line in
+    let rest =
+    lines_more c.args.client c.args.requests.now c.args.transcript.now c.loop-index.index c.index-requests-index.result c.in-Some.line c.loop-index.invariant.done
+    c.loop-index-test.true (sym c.index-requests-index.is) (sym c.get.ensures ∙ c.in-Some.is) c.loop-index.invariant.rest
+    in
     rw (p.1, p.2)
-    (prints_stopped (transcript_text c.args.client (iter_rest (zip_first c.next.new.self)) (iter_rest (zip_second c.next.new.self))) (printed_then c.loop-request.invariant.printed (printed_held (string_bytes c.loop-request.text) (line_text c.args.client c.in-Some.request.now c.in-Some.line.now) c.in_ok-push_line.ensures)) c.in_err-write_if_full.ensures.prints rest)
+    (prints_stopped (transcript_text c.args.client (drop (c.loop-index.index + 1) c.args.requests.now) (drop (c.loop-index.index + 1) c.args.transcript.now))
+    (printed_then c.loop-index.invariant.printed (printed_held (string_bytes c.loop-index.text) text c.in_ok-push_line.ensures)) c.in_err-write_if_full.ensures.prints rest)
 
-pub loop-request-preserved : goal.loop-request-preserved
-loop-request-preserved g c =
-    let step = Zip-more c.loop-request.request-iterator c.next.new.self c.next.result (c.in-Some.request, c.in-Some.line) c.in-Some.is c.next.ensures.steps in
+pub loop-index-preserved : goal.loop-index-preserved
+loop-index-preserved g c =
+    let text = line_text c.args.client c.index-requests-index.result c.in-Some.line in
     record {
-      done = c.loop-request.invariant.done ++ line_text c.args.client c.in-Some.request.now c.in-Some.line.now;
-      printed = printed_moved (printed_then c.loop-request.invariant.printed (printed_held (string_bytes c.loop-request.text) (line_text c.args.client c.in-Some.request.now c.in-Some.line.now) c.in_ok-push_line.ensures)) c.in_ok-write_if_full.ensures.prints.ok;
-      rest = lines_more c.args.client c.loop-request.invariant.done step c.loop-request.invariant.rest;
+      done = c.loop-index.invariant.done ++ text;
+      printed =
+          printed_moved (printed_then c.loop-index.invariant.printed (printed_held (string_bytes c.loop-index.text) text c.in_ok-push_line.ensures))
+          c.in_ok-write_if_full.ensures.prints.ok;
+      rest =
+          lines_more c.args.client c.args.requests.now c.args.transcript.now c.loop-index.index c.index-requests-index.result c.in-Some.line c.loop-index.invariant.done
+          c.loop-index-test.true (sym c.index-requests-index.is) (sym c.get.ensures ∙ c.in-Some.is) c.loop-index.invariant.rest;
     }
+
+pub returns-in_default : goal.returns-in_default
+returns-in_default g c =
+    let all : c.loop-index.invariant.done ≡ transcript_text c.args.client c.args.requests.now c.args.transcript.now =
+    lines_none c.args.client c.args.requests.now c.args.transcript.now c.loop-index.index c.loop-index.invariant.done
+    (ended c.args.transcript.now c.loop-index.index (sym c.get.ensures ∙ c.in_default.is)) c.loop-index.invariant.rest
+    in
+    prints_ok (printed_same all c.loop-index.invariant.printed)
 
 pub returns : goal.returns
 returns g c =
-    let ended = either_empty_from_Zip c.loop-request.request-iterator c.next.new.self c.next.result c.in-None.is c.next.ensures.steps in
-    let all : c.loop-request.invariant.done ≡ transcript_text c.args.client c.args.requests.now c.args.lines.now =
-    lines_end c.args.client _ _ c.loop-request.invariant.done ended c.loop-request.invariant.rest
+    let all : c.loop-index.invariant.done ≡ transcript_text c.args.client c.args.requests.now c.args.transcript.now =
+    lines_end c.args.client c.args.requests.now c.args.transcript.now c.loop-index.index c.loop-index.invariant.done c.loop-index-test.false c.loop-index.invariant.rest
     in
-    prints_ok (printed_same all c.loop-request.invariant.printed)
+    prints_ok (printed_same all c.loop-index.invariant.printed)

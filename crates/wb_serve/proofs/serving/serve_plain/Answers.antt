@@ -1,5 +1,5 @@
 -- The session of the requests that were played.
-use Rattle.std.proofs.Common.{◌≡◌, ◌≤◌, ◌⊎◌, [], ◌∷◌, inl, inr, refl, sym, ap, subst, ◌∙◌, arith}
+use Rattle.std.proofs.Common.{◌≡◌, ◌≤◌, ◌⊎◌, inl, inr, refl, sym, ap, subst, ◌∙◌, arith}
 use Rattle.std.proofs.lemmas.Option.{IfSome_then}
 use Rattle.std.proofs.lemmas.Result.{IfOk-weaker, IfErr-weaker}
 use Rattle.wb_geometry.specs.declared.geometry.Geometry.{Geometry}
@@ -10,33 +10,25 @@ use Rattle.wb_serve.specs.declared.serving.ServeStop.TheVariants as stop
 use Rattle.wb_serve.specs.Session.{devices, IsUnserved, SaysLogFault, SaysBackingFault}
 use Rattle.wb_serve.proofs.Openings.{come_opened}
 use Rattle.wb_serve.proofs.Closed.{Closes}
-use Rattle.wb_serve.proofs.Servings.{one_client, all_one, session_told, session_cut, says_fault, counts_same}
-use Rattle.wb_serve.proofs.Answering.{played_in_part}
+use Rattle.wb_serve.proofs.Servings.{session_told, session_cut, says_fault, counts_same}
+use Rattle.wb_serve.proofs.Cut.{all_in_part}
 use Rattle.wb_serve.proofs.serving.serve_plain.Goals as goal
 
-pub play-played-requires-clause-asked : goal.play-played-requires-clause-asked
-play-played-requires-clause-asked g c =
-    let valid = c.requires in
-    let e = c.in-Ok.engine in
-    let one : c.args.script.now.requests ≡ c.as_slice.result.now ∷ [] = one_client _ _ (omega (arith, valid.each, valid.some, valid.few)) (rw c.requests.ensures at c.index-requests-0.is) ∙ ap (λ q. q ∷ []) (sym c.as_slice.ensures) in
-    let fits : c.args.script.now.sectors ≤ e.geometry.backing_sectors = omega (arith, c.if-found-parsed.false, c.sectors-parsed.ensures, ap (λ (g : Geometry). g.backing_sectors) c.geometry.ensures.geometry) in
-    all_one c.args.script.now c.as_slice.result.now e.geometry.backing_sectors one valid fits e.geometry.backing_fits.2
+pub play_all-played-requires-clause-fits : goal.play_all-played-requires-clause-fits
+play_all-played-requires-clause-fits g c = omega (arith, c.if-found-parsed.false, c.sectors-parsed.ensures, ap (λ (g : Geometry). g.backing_sectors) c.geometry.ensures.geometry)
 
-pub play-played-requires-clause-opened : goal.play-played-requires-clause-opened
-play-played-requires-clause-opened g c =
+pub play_all-played-requires-clause-opened : goal.play_all-played-requires-clause-opened
+play_all-played-requires-clause-opened g c =
     let ends = c.in-Ok.ensures in
     come_opened ends.opened
 
 pub returns : goal.returns
 returns g c =
-    let valid = c.requires in
     let e = c.in-Ok.engine in
     let ends = c.in-Ok.ensures in
-    let mid = c.play-played.new.engine in
+    let mid = c.play_all-played.new.engine in
     let end = c.close-closed.result in
     let close = c.close-closed.ensures in
-    let requests = c.as_slice.result.now in
-    let one : c.args.script.now.requests ≡ requests ∷ [] = one_client _ _ (omega (arith, valid.each, valid.some, valid.few)) (rw c.requests.ensures at c.index-requests-0.is) ∙ ap (λ q. q ∷ []) (sym c.as_slice.ensures) in
     let fits : c.args.script.now.sectors ≤ e.geometry.backing_sectors = omega (arith, c.if-found-parsed.false, c.sectors-parsed.ensures, ap (λ (g : Geometry). g.backing_sectors) c.geometry.ensures.geometry) in
     let opens = ends.opened in
     let closes : Closes g.L.Device.state g.B.Device.state end.fault (g.L.Device.state end.log) (g.B.Device.state end.backing) mid = record {
@@ -56,18 +48,18 @@ returns g c =
     } in
     let session = IfOk-weaker c.session_of.result _ _
     (λ s tells.
-    let told = session_told c.args.script.now requests c.first-first.result c.absorbed-places.result c.play-played.result s
-    opens fits one c.play-played.ensures.played closes c.first-first.ensures c.absorbed-places.ensures tells in (opens.found, told.0, told.1))
+    let told = session_told c.args.script.now c.first-first.result c.absorbed-places.result c.play_all-played.result s
+    opens fits c.play_all-played.ensures.played closes c.first-first.ensures c.absorbed-places.ensures tells in (opens.found, told))
     c.session_of.ensures.told in
-    let cut = session_cut c.args.script.now requests opens fits one
-    (played_in_part 0 requests c.play-played.result c.play-played.ensures.played c.play-played.ensures.in_part) closes in
+    let cut = session_cut c.args.script.now opens fits
+    (all_in_part c.args.script.now.requests c.play_all-played.result c.play_all-played.ensures.played c.play_all-played.ensures.in_part) closes in
     let unserved = IsUnserved c.args.script.now (devices (g.L.Device.state c.args.log) (g.B.Device.state c.args.backing)) (devices (g.L.Device.state end.log) (g.B.Device.state end.backing)) in
     let memory = c.session_of.ensures.memory in
     record {
       session = session;
       unserved = IfErr-weaker c.session_of.result _ _ (λ why is. subst unserved (sym is) (inl (refl, (opens.found, cut)))) memory;
-      log_cause = λ other. says_fault SaysLogFault c.session_of.result _ _ (IfOk-weaker c.session_of.result _ _ (λ s is. is.1.log_cause) session) memory other;
-      backing_cause = λ other. says_fault SaysBackingFault c.session_of.result _ _ (IfOk-weaker c.session_of.result _ _ (λ s is. is.1.backing_cause) session) memory other;
+      log_cause = λ other. says_fault SaysLogFault c.session_of.result _ _ (IfOk-weaker c.session_of.result _ _ (λ s is. is.1.is.log_cause) session) memory other;
+      backing_cause = λ other. says_fault SaysBackingFault c.session_of.result _ _ (IfOk-weaker c.session_of.result _ _ (λ s is. is.1.is.backing_cause) session) memory other;
     }
 
 pub returns-then-found-parsed-clause-unserved : goal.returns-then-found-parsed-clause-unserved

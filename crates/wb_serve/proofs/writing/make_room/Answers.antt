@@ -25,7 +25,7 @@ pub returns-in-Err-clause-down : goal.returns-in-Err-clause-down
 returns-in-Err-clause-down g c =
     let e = c.loop-engine.engine in
     let full : limit_of e.geometry e.numbers ≤ e.absorbed = omega (arith, c.loop-engine-test.true, c.absorbed.ensures, c.limit.ensures) in
-    room_failed e c.turn.new.self c.turn.result c.in-Err.device c.in-Err.is c.turn.ensures.step.moves c.turn.ensures.does full
+    room_failed e c.turn.new.self c.turn.result c.in-Err.device c.in-Err.is c.turn.ensures.step.moves c.turn.ensures.does c.loop-engine.invariant.order full
 
 pub loop-engine-smaller : goal.loop-engine-smaller
 loop-engine-smaller g c =

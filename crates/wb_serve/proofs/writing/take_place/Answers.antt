@@ -20,7 +20,7 @@ returns-in-Some g c =
     let made = c.in-Some.ensures in
     record {
       taken = (
-        record { down = made.down.0; full = made.down.1; left = left_still made.moved left },
+        record { down = made.down.0; full = made.down.1; ordered = made.down.2; left = left_still made.moved left },
         made.moved,
         (λ quiet. elim quiet [
           | inl room ↦ let same = made.kept room in (ap (λ x. x.log) same, ap (λ x. x.backing) same)
@@ -43,7 +43,7 @@ returns g c =
         moved_then c.make_room.ensures.moved
             (moved_entry (entered c.args.entry) absorb.stands absorb.synced absorb.kept.log absorb.kept.backing
             (record { geometry = absorb.kept.geometry; first = ap (λ (n : Numbers). n.first) absorb.numbers })
-            absorb.absorbed absorb.kept.down),
+            absorb.absorbed (ap (λ (n : Numbers). n.stable) absorb.numbers) absorb.kept.down),
         (λ quiet. elim quiet [
           | inl room ↦ let same = c.make_room.ensures.kept room in (absorb.kept.log ∙ ap (λ x. x.log) same, absorb.kept.backing ∙ ap (λ x. x.backing) same)
           | inr spent ↦ absurd (left spent)

@@ -1,31 +1,26 @@
--- The entry is the one that the write asks for.
-use Rattle.std.proofs.Common.{ℕ, ◌+◌, ◌-◌, ◌*◌, ◌++◌, ◌%◌, false, List, get_or, replicate, sym, ap, subst, ◌∙◌, arith}
+-- The entries of the bytes come.
+use Rattle.std.proofs.Common.{ℕ, List, ◌≡◌, ◌*◌, ◌%◌, ◌≤◌, length, map, All, ◌∙◌, sym, ap, subst, arith}
+use Rattle.std.proofs.lemmas.List.{length-map}
 use Rattle.wb_geometry.specs.History.{HistoryEntry}
-use Rattle.wb_script.specs.declared.transcript.Line.{Line}
-use Rattle.wb_script.specs.declared.request.Request.TheVariants.{Write}
-use Rattle.wb_serve.specs.Playing.{TakesPlace, IsAnswered}
-use Rattle.wb_serve.proofs.Entries.{entry-one, bits_some}
-use Rattle.wb_serve.proofs.Answering.{answered_write}
+use Rattle.wb_geometry.specs.Entering.{entered}
+use Rattle.wb_serve.specs.Playing.{IsWriteInside}
+use Rattle.wb_serve.proofs.Parts.{writes_inside, few_parts}
+use Rattle.wb_serve.proofs.Repeats.{length-repeated}
 use Rattle.wb_serve.proofs.writing.write.Goals as goal
 
-pub take_place-requires : goal.take_place-requires
-take_place-requires g c = (
-  (λ none. omega (arith, none, c.in_ok-payload.ensures.bits, bits_some (c.args.sector % 8))),
-  c.requires.3,
-)
+pub entries_of-requires-clause-sized : goal.entries_of-requires-clause-sized
+entries_of-requires-clause-sized g c =
+    let some : 1 ≤ length c.as_slice.result.now = subst (λ (bytes : List ℕ). 1 ≤ length bytes) (sym c.as_slice.ensures) c.requires.fills.some in
+    let whole : 512 * c.args.count % length c.as_slice.result.now ≡ 0 = subst (λ (bytes : List ℕ). 512 * c.args.count % length bytes ≡ 0) (sym c.as_slice.ensures) c.requires.fills.whole in
+    ap length c.deref.ensures.value ∙ ap length c.in_ok-repeat.ensures ∙ length-repeated c.as_slice.result.now (512 * c.args.count) some whole
 
-pub returns : goal.returns
-returns g c =
-    let e = c.args.engine.now in
-    let f = c.take_place.new.engine in
-    let byte : List ℕ → List ℕ = λ pattern. replicate 512 (get_or pattern 0 0) in
-    let entry = entry-one c.args.client c.args.sector c.in_ok-payload.payload.value.bits c.in_ok-payload.payload.value.payload (byte c.args.pattern.now) c.in_ok-payload.ensures.bits
-    (c.in_ok-payload.ensures.payload
-    ∙ ap (λ (pattern : List ℕ). replicate (512 * (c.args.sector % 8)) 0 ++ byte pattern ++ replicate (512 * (8 - (c.args.sector % 8 + 1))) 0) c.as_slice.ensures) in
-    record {
-      answered =
-          subst (λ (line : Line). IsAnswered g.L.Device.state g.B.Device.state c.args.client (Write c.args.sector 1 c.args.pattern.now false) e f line) (sym c.line_of.ensures)
-          (answered_write c.args.client c.args.sector c.args.pattern.now c.take_place.result c.requires.1
-          (subst (λ (x : HistoryEntry). TakesPlace g.L.Device.state g.B.Device.state e f x c.take_place.result) entry c.take_place.ensures.taken));
-      unanswered = tt;
-    }
+pub take_places-requires-clause-inside : goal.take_places-requires-clause-inside
+take_places-requires-clause-inside g c =
+    subst (All (IsWriteInside c.args.engine.now.geometry.backing_sectors)) (sym c.in_ok-entries.ensures)
+    (writes_inside c.args.client c.args.sector c.args.count c.args.engine.now.geometry.backing_sectors c.deref.result.now c.requires.within.inside c.args.engine.now.geometry.backing_fits.2)
+
+pub take_places-requires-clause-few : goal.take_places-requires-clause-few
+take_places-requires-clause-few g c =
+    let size : length (map entered c.in_ok-entries.entries.items) ≡ length c.in_ok-entries.entries.items = length-map c.in_ok-entries.entries.items entered in
+    let few = subst (λ (es : List HistoryEntry). length es ≤ 33) (sym c.in_ok-entries.ensures) (few_parts c.args.client c.args.sector c.args.count c.deref.result.now c.requires.within.few) in
+    omega (arith, size, few)

@@ -11,7 +11,7 @@ pub returns-then-not-is_size-clause-refused : goal.returns-then-not-is_size-clau
 returns-then-not-is_size-clause-refused c = λ _. (
   refl,
   λ pattern decoded fills.
-      let holds = c.is_size.ensures.1 (rw (half c.args.digits.now pattern decoded) (fills.some, fills.short, fills.whole)) in
+      let holds = c.is_size.ensures.1 (rw (half c.args.digits.now pattern decoded) (fills.some, fills.whole)) in
       cc,
 )
 
@@ -21,6 +21,5 @@ returns-in-Ok-clause-fills c =
     let two = half c.args.digits.now c.in-Ok.bytes.items c.in-Ok.ensures.ok in
     rw c.of.ensures (record {
       some = rw (← two) size.0;
-      short = rw (← two) size.1;
-      whole = rw (← two) size.2;
+      whole = rw (← two) size.1;
     })

@@ -1,4 +1,4 @@
-use Rattle.std.proofs.Common.{ℕ, ◌<◌, ◌++◌, ◌∷◌, [], eqb, length, rules, tests, ap, ◌∙◌, arith}
+use Rattle.std.proofs.Common.{ℕ, ◌<◌, ◌++◌, ◌∷◌, [], eqb, length, map, rules, tests, ap, ◌∙◌, arith}
 use Rattle.std.specs.List.{slice_split}
 use Rattle.std.proofs.lemmas.List.{take_more_set, length_push, length-set, length-take}
 use Rattle.std.proofs.lemmas.Iterator.{YieldsList-from_take}
@@ -22,12 +22,12 @@ loop-word-preserved c =
       kept = take_more_set c.loop-word.first c.loop-word.count c.in-Some.word room ∙ ap (λ v. v ++ c.in-Some.word ∷ []) c.loop-word.invariant.kept;
     }
 
-pub returns : goal.returns
+pub invariant_of-result : goal.invariant_of-result
 unfolding words
-returns c =
+invariant_of-result c =
     let byte = λ (b : ℕ). eqb b 32 in
     let all = YieldsList-end
     (YieldsList-from_take {s = c.into_iter-word-iterator.result} 6 (YieldsList-at (search rules)
     (YieldsList-from_slice_split {s = c.split.result} _ byte c.args.line.now c.split.ensures.rest c.split.ensures.done c.split.ensures.closure (λ x r q k. search (rules, tests)))) (search rules))
     c.loop-word.yielded _ c.loop-word.yielded_by _ _ c.in-None.is c.next.ensures.steps in
-    rw c.loop-word.invariant.kept all.0
+    (c.loop-word.invariant.counted ∙ all.1, ap (map (λ part. part.now)) c.loop-word.invariant.kept ∙ all.0)
