@@ -5,6 +5,8 @@ mod changes;
 mod commands;
 mod cuts;
 mod faults;
+mod flushes;
+mod seeded;
 mod streams;
 mod wrapping;
 

@@ -172,7 +172,7 @@ fn wrong_devices(case: &Case, log: &Listed, backing: &Listed) -> Option<&'static
 fn are_transcripts(transcripts: &[Transcript], lines: usize) -> bool {
     match transcripts {
         [] => lines == 0,
-        [one] => lines > 0 && one.as_slice().len() == lines,
+        [one] => lines > 0 && one.len() == lines,
         _ => false,
     }
 }
@@ -275,7 +275,7 @@ fn byte_at(at: usize, writes: &[(usize, u8)], put: usize) -> u8 {
 }
 
 /// Whether a log of these bytes has this record.
-fn has_record(log: &[u8], recorded: Option<u64>) -> bool {
+pub fn has_record(log: &[u8], recorded: Option<u64>) -> bool {
     match recorded {
         Some(recorded) => {
             log.get(RECORD_BYTE..RECORD_BYTE + 8) == Some(recorded.to_le_bytes().as_slice())

@@ -67,7 +67,15 @@ const COMMANDS: [(&str, &str, u8, &str, usize, &[(usize, u8)], u64); 9] = [
         &[],
         0,
     ),
-    (SERVE, BAD, 3, "wblog: script line 2: command\n", 0, &[], 0),
+    (
+        SERVE,
+        BAD,
+        3,
+        "wblog: script line 2: range 64 1 of 64\n",
+        0,
+        &[],
+        0,
+    ),
     (
         "format LOG BACKING 5 5 2",
         GOOD,
@@ -110,10 +118,7 @@ fn has_empty_transcript(alloc: Global) -> Result<bool, Fail> {
     let log = SteadyDevice::of(empty_log(alloc, 5, 4)?);
     let backing = SteadyDevice::of(vec![in alloc; 0; BACKING_BYTES]?);
     let (outcome, _) = run(alloc, SERVE, "clients 1\n", log, backing)?;
-    Ok(
-        outcome.transcripts.len() == 1
-            && outcome.transcripts.iter().all(|t| t.as_slice().is_empty()),
-    )
+    Ok(outcome.transcripts.len() == 1 && outcome.transcripts.iter().all(|t| t.is_empty()))
 }
 
 #[test]
