@@ -16,3 +16,4 @@ pub mod Sessions
 pub mod Spelled
 pub mod Validity
 pub mod Words
+pub mod Workloads

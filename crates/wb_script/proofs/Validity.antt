@@ -31,16 +31,16 @@ asked_of sectors clients (line ∷ read) (own ∷ owned) client spelled =
     asked_next sectors clients client own (filter (λ o. eqb o.0 client) owned) (eqb own.0 client) refl spelled.0.1 (asked_of sectors clients read owned client spelled.1)
 
 -- of as many clients
-asked_all : (sectors clients : ℕ) (owned : List (ℕ × Request)) → ((client : ℕ) → All (IsAsked sectors clients client) (requests_of owned client))
-    → All (λ own. All (IsAsked sectors clients own.0) own.1) (enumerate_from 0 (map (requests_of owned) (range_with_len 0 clients)))
-asked_all sectors clients owned each k d within =
-    let all = map (requests_of owned) (range_with_len 0 clients) in
+pub asked_all : (sectors clients : ℕ) (own : ℕ → List Request) → ((client : ℕ) → client < clients → All (IsAsked sectors clients client) (own client))
+    → All (λ own. All (IsAsked sectors clients own.0) own.1) (enumerate_from 0 (map own (range_with_len 0 clients)))
+asked_all sectors clients own each k d within =
+    let all = map own (range_with_len 0 clients) in
     let inside : k < length all = omega (arith, within, length-enumerate_from 0 all) in
-    let below : k < clients = omega (arith, inside, length-map-range_with_len (requests_of owned) 0 clients) in
-    let own : get_or (enumerate_from 0 all) k d ≡ (k, requests_of owned k) =
+    let below : k < clients = omega (arith, inside, length-map-range_with_len own 0 clients) in
+    let at : get_or (enumerate_from 0 all) k d ≡ (k, own k) =
     get_or-enumerate_from 0 all k d inside
-    ∙ (λ i. (zero-add k i, get_or-map-range_with_len (requests_of owned) 0 clients k k d.1 below (zero-add k) i)) in
-    subst (λ (o : ℕ × List Request). All (IsAsked sectors clients o.0) o.1) (sym own) (each k)
+    ∙ (λ i. (zero-add k i, get_or-map-range_with_len own 0 clients k k d.1 below (zero-add k) i)) in
+    subst (λ (o : ℕ × List Request). All (IsAsked sectors clients o.0) o.1) (sym at) (each k below)
 
 pub valid_script : (sectors : ℕ) (bytes : List ℕ) (script : ScriptContent) → IsScript sectors bytes script → IsValid script
 valid_script sectors bytes script is =
@@ -50,7 +50,7 @@ valid_script sectors bytes script is =
       each = ap length is.requests_are ∙ length-map-range_with_len (requests_of is.owned) 0 script.clients;
       asked = subst (λ n. All (λ own. All (IsAsked n script.clients own.0) own.1) (enumerate_from 0 script.requests)) (sym is.sectors_are)
           (subst (λ all. All (λ own. All (IsAsked sectors script.clients own.0) own.1) (enumerate_from 0 all)) (sym is.requests_are)
-          (asked_all sectors script.clients is.owned (λ client. asked_of sectors script.clients (request_lines bytes) is.owned client is.spelled)));
+          (asked_all sectors script.clients (requests_of is.owned) (λ client below. asked_of sectors script.clients (request_lines bytes) is.owned client is.spelled)));
       left = is.left;
       shown = omega (
         arith,

@@ -12,3 +12,4 @@ pub mod Transcripts
 pub mod Clients
 pub mod Output
 pub mod Printed
+pub mod Workload

@@ -4,6 +4,7 @@
 //! print, and `specs/Output.antt` is the text (docs/SCRIPT.md).
 #![tactic(auto)]
 
+mod generating;
 mod parsing;
 mod printing;
 mod refusal;
@@ -11,6 +12,7 @@ mod request;
 mod script;
 mod transcript;
 
+pub use generating::generate;
 pub use parsing::{number, parse};
 pub use printing::{PrintStop, print, sum_text};
 pub use refusal::{Cause, ParseStop, ScriptRefused};
