@@ -1,5 +1,6 @@
--- A step that only reads the log: a segment is written back, or was begun to be, or couldn't be read, or nothing is done.
-use Rattle.std.proofs.Common.{ℕ, suc, ◌≡◌, ◌+◌, ◌-◌, ◌<◌, ◌≤◌, List, [], length, Option, Some, None, IsSome, Result, OnOk, Ok, Err, true, false, inl, refl, ap, sym, ◌∙◌, subst, arith}
+-- A step that only reads the log: a batch of segments is written back, or was begun to be, or couldn't be read, or nothing
+-- is done.
+use Rattle.std.proofs.Common.{ℕ, ◌≡◌, ◌-◌, ◌<◌, ◌≤◌, List, [], length, Option, Some, None, IsSome, Result, OnOk, Ok, Err, true, false, inl, refl, ap, sym, ◌∙◌, subst, arith}
 use Rattle.std.specs.Result.{is_err}
 use Rattle.wb_geometry.specs.Image.{Image}
 use Rattle.wb_geometry.specs.Device.{State, IsDevice, IsSameDevice, NothingPending, Passes, ContentPasses, OnlyRead, CountsFaults, Rose}
@@ -7,7 +8,6 @@ use Rattle.wb_geometry.specs.History.{HistoryEntry, after, last_write, PutsPartl
 use Rattle.wb_geometry.specs.Layout.{places}
 use Rattle.wb_geometry.specs.Line.{Line, line_of, span}
 use Rattle.wb_geometry.specs.declared.geometry.Geometry.{Geometry}
-use Rattle.wb_geometry.proofs.Lines.{span-one}
 use Rattle.wb_geometry.proofs.Histories.{puts_all}
 use Rattle.wb_geometry.proofs.Moments.{weaker, content_weaker, passes_same, content_same, same_device}
 use Rattle.wb_header.specs.Text.{TextBlock}
@@ -24,8 +24,8 @@ use Rattle.wb_crash.proofs.Crash.{back_batch_word}
 use Rattle.wb_memory.specs.Memory.{MemoryContent, live, segment_at}
 use Rattle.wb_engine.specs.Content.{EngineContent}
 use Rattle.wb_engine.specs.Standing.{Standing, IsSynced, IsListed, line}
-use Rattle.wb_engine.specs.Stepping.{MayBack, IsPlanOf, IsStep}
-use Rattle.wb_engine.proofs.Among.{puts_same, puts_of_segment}
+use Rattle.wb_engine.specs.Stepping.{entries_in_log, IsPlanOf, IsStep}
+use Rattle.wb_engine.proofs.Among.{puts_same, puts_of_span, span-alike}
 use Rattle.wb_engine.proofs.ReadBack.{read_writes}
 use Rattle.wb_engine.proofs.Records.{record_up}
 
@@ -67,12 +67,6 @@ is_told None some = absurd (cc)
 
 none_alike : (list : ℕ → List HistoryEntry) (a : ℕ) → WritesAlike [] (span list a (a - a))
 none_alike list a k = let none : 0 ≡ a - a = omega arith in ap (λ (m : ℕ). last_write k (span list a m)) none
-
-one_segment : (list : ℕ → List HistoryEntry) (a : ℕ) → list (a + 1) ≡ span list a (a + 1 - a)
-one_segment list a =
-    let one : 1 ≡ a + 1 - a = omega arith in
-    let next : a + 1 ≡ suc a = omega arith in
-    ap list next ∙ sym (span-one list a) ∙ ap (span list a) one
 
 module _ {L B : Type 0} where
   same_line : (old new : EngineContent L B) (base : Image) (h : List HistoryEntry) → new.geometry ≡ old.geometry → new.numbers.first ≡ old.numbers.first → line new base h ≡ line old base h
@@ -137,70 +131,68 @@ module _ {L B : Type 0} {of_log : L → State} {of_backing : B → State} where
             (sym (ap (λ (m : Numbers). m.tried) moved.numbers ∙ numbers.tried)) (crash base h stands);
       }
 
-  -- ---- the segment behind the last that is back
+  -- ---- the segments behind the last that is back
 
-  -- the plan writes what the segment's entries do
-  plan_writes : (e : EngineContent L B) (base : Image) (h : List HistoryEntry) (planned : List TextBlock) → MayBack e.numbers
-      → IsPlanOf e.geometry (e.numbers.back + 1) (metas_at e.memory.logged (e.numbers.back + 1)) (of_log e.log) planned → Standing of_log of_backing e base h
-      → WritesLast planned ((line e base h).list (e.numbers.back + 1))
-  plan_writes e base h planned may plan stands =
+  -- the plan writes what the entries of the segments do
+  plan_writes : (e : EngineContent L B) (base : Image) (h : List HistoryEntry) (last : ℕ) (planned : List TextBlock) → e.numbers.back < last → last ≤ e.numbers.stable
+      → IsPlanOf e.geometry e.memory.logged e.numbers.back last (of_log e.log) planned → Standing of_log of_backing e base h
+      → WritesLast planned (span (line e base h).list e.numbers.back (last - e.numbers.back))
+  plan_writes e base h last planned some below plan stands =
       let ordered = stands.safe.ordered in
       let told = is_told (of_log e.log).content stands.told in
       record {
         each = λ k.
             plan.put told.0 told.1 k
-            ∙ read_writes e base h told.0 (e.numbers.back + 1) stands told.1 (omega (arith, ordered.recorded)) (omega (arith, may, ordered.stable)) k;
+            ∙ span-alike (entries_in_log e.geometry told.0 e.memory.logged) (line e base h).list k e.numbers.back (last - e.numbers.back)
+            (λ s low high. read_writes e base h told.0 s stands told.1 (omega (arith, ordered.recorded, low)) (omega (arith, high, some, below, ordered.stable)) k);
       }
-
-module _ {L B : Type 0} where
-  plan_alike : (e : EngineContent L B) (base : Image) (h : List HistoryEntry) (planned : List TextBlock) → WritesLast planned ((line e base h).list (e.numbers.back + 1))
-      → WritesAlike (entries_of planned) (span (line e base h).list e.numbers.back (e.numbers.back + 1 - e.numbers.back))
-  plan_alike e base h planned writes k = writes.each k ∙ ap (last_write k) (one_segment (line e base h).list e.numbers.back)
 
 module _ {L B : Type 0} {of_log : L → State} {of_backing : B → State} where
   -- whichever way the writing ends
-  module _ (old new : EngineContent L B) (planned : List TextBlock) (log_device : IsDevice (of_log old.log)) (device : IsDevice (of_backing old.backing)) (may : MayBack old.numbers)
-      (up : old.down ≡ None) (plan : IsPlanOf old.geometry (old.numbers.back + 1) (metas_at old.memory.logged (old.numbers.back + 1)) (of_log old.log) planned)
+  module _ (old new : EngineContent L B) (last : ℕ) (planned : List TextBlock) (log_device : IsDevice (of_log old.log)) (device : IsDevice (of_backing old.backing))
+      (some : old.numbers.back < last) (below : last ≤ old.numbers.stable)
+      (up : old.down ≡ None) (plan : IsPlanOf old.geometry old.memory.logged old.numbers.back last (of_log old.log) planned)
       (read : OnlyRead (of_log old.log) (of_log new.log)) (same : IsSameDevice (of_backing old.backing) (of_backing new.backing))
       (pass : Passes (PutsPartly (entries_of planned)) (of_backing old.backing) (of_backing new.backing)) where
     planned_left : (base : Image) (h : List HistoryEntry) → Standing of_log of_backing old base h → Passes (PutsPartly h) (of_backing old.backing) (of_backing new.backing)
     planned_left base h stands =
-        weaker (λ x y left put. puts_of_segment (places old.geometry) old.numbers.first (old.numbers.back + 1) h x y put)
-        (crash-partly_written (AreDistinct-arranged planned plan.arranged) (plan_writes old base h planned may plan stands) pass)
+        weaker (λ x y left put. puts_of_span (places old.geometry) old.numbers.first old.numbers.back (last - old.numbers.back) h x y put)
+        (crash-partly_written (AreDistinct-arranged planned plan.arranged) (plan_writes old base h last planned some below plan stands) pass)
 
     planned_crash : (base : Image) (h : List HistoryEntry) → Standing of_log of_backing old base h
         → CrashInCall old.geometry (line old base h) old.numbers.stable old.numbers.tried (of_log old.log) (of_log new.log) (of_backing old.backing) (of_backing new.backing)
     planned_crash base h stands =
-        back_batch_word (old.numbers.back + 1) (entries_of planned) stands.safe (omega arith) (omega (arith, may))
-        (plan_alike old base h planned (plan_writes old base h planned may plan stands)) log_device device read.crash pass
+        back_batch_word last (entries_of planned) stands.safe (omega (arith, some)) below
+        (plan_writes old base h last planned some below plan stands).each log_device device read.crash pass
 
-    -- the segment is written back
-    pub backed : IsMoved old new (put_up_to (old.numbers.back + 1) old.numbers) → NothingPending (of_backing new.backing)
+    -- the segments are written back
+    pub backed : IsMoved old new (put_up_to last old.numbers) → NothingPending (of_backing new.backing)
         → ContentPasses (λ x y. y ≡ after x (entries_of planned)) (of_backing old.backing) (of_backing new.backing) → IsStep of_log of_backing old new
     backed moved nothing content =
-        read_step old new (put_up_to (old.numbers.back + 1) old.numbers) moved (put_numbers (old.numbers.back + 1) old.numbers) up read same (λ is _. nothing)
+        read_step old new (put_up_to last old.numbers) moved (put_numbers last old.numbers) up read same (λ is _. nothing)
         (λ base h stands.
-        safe_back (old.numbers.back + 1) (entries_of planned) (safe_log_kept stands.safe read.crash read.content) (omega arith) (omega (arith, may))
-        (plan_alike old base h planned (plan_writes old base h planned may plan stands)) nothing content)
+        safe_back last (entries_of planned) (safe_log_kept stands.safe read.crash read.content) (omega (arith, some)) below
+        (plan_writes old base h last planned some below plan stands).each nothing content)
         (λ base h stands.
         content_weaker
         (λ x y told is.
-        puts_of_segment (places old.geometry) old.numbers.first (old.numbers.back + 1) h x y
-        (subst (PutsPartly ((line old base h).list (old.numbers.back + 1)) x) (sym is) (puts_all ((line old base h).list (old.numbers.back + 1)) x)))
-        (content-written (plan_writes old base h planned may plan stands) content))
+        let batch : List HistoryEntry = span (line old base h).list old.numbers.back (last - old.numbers.back) in
+        puts_of_span (places old.geometry) old.numbers.first old.numbers.back (last - old.numbers.back) h x y
+        (subst (PutsPartly batch x) (sym is) (puts_all batch x)))
+        (content-written (plan_writes old base h last planned some below plan stands) content))
         planned_left planned_crash
 
-    -- some of its sectors are
+    -- some of their sectors are
     pub partly_backed : IsMoved old new old.numbers → (new.down ≡ None → ⊥) → ContentPasses (PutsPartly (entries_of planned)) (of_backing old.backing) (of_backing new.backing)
         → IsStep of_log of_backing old new
     partly_backed moved down content =
         read_step old new old.numbers moved (same_numbers old.numbers) up read same (λ is none. absurd (down none))
         (λ base h stands.
-        safe_back_tried (old.numbers.back + 1) (entries_of planned) (safe_log_kept stands.safe read.crash read.content) (omega arith) (omega (arith, may))
-        (plan_alike old base h planned (plan_writes old base h planned may plan stands)) pass content)
+        safe_back_tried last (entries_of planned) (safe_log_kept stands.safe read.crash read.content) (omega (arith, some)) below
+        (plan_writes old base h last planned some below plan stands).each pass content)
         (λ base h stands.
-        content_weaker (λ x y told put. puts_of_segment (places old.geometry) old.numbers.first (old.numbers.back + 1) h x y put)
-        (content-partly_written (AreDistinct-arranged planned plan.arranged) (plan_writes old base h planned may plan stands) content))
+        content_weaker (λ x y told put. puts_of_span (places old.geometry) old.numbers.first old.numbers.back (last - old.numbers.back) h x y put)
+        (content-partly_written (AreDistinct-arranged planned plan.arranged) (plan_writes old base h last planned some below plan stands) content))
         planned_left planned_crash
 
   -- the backing device isn't called

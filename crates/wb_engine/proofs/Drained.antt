@@ -13,11 +13,12 @@ use Rattle.wb_crash.specs.Images.{IsOrdered}
 use Rattle.wb_crash.specs.Numbers.{written, synced, put_up_to, recording}
 use Rattle.wb_crash.specs.declared.numbers.Numbers.{Numbers}
 use Rattle.wb_engine.specs.Content.{EngineContent}
-use Rattle.wb_engine.specs.Stepping.{MayLog, MaySync, MayBack, MayRecord, LogsNext, SyncsLog, WritesBack, PutsRecord, Moves, IsTurn, Says, turns_left}
+use Rattle.wb_engine.specs.Stepping.{MayLog, MaySync, MayBack, MayRecord, LogsNext, SyncsLog, WritesBack, PutsRecord, Moves, IsTurn, Says, turns_left, batch_end}
 use Rattle.wb_engine.specs.Closing.{IsDrained}
 use Rattle.wb_engine.specs.declared.turning.Turn.{Turn}
 use Rattle.wb_engine.specs.declared.turning.Turn.TheVariants as turn
 use Rattle.wb_engine.proofs.Among.{puts_same}
+use Rattle.wb_engine.proofs.Batches.{batch_ends}
 
 -- ---- steps one after another
 
@@ -72,6 +73,10 @@ failed_less n m was now which up down same = omega (arith, ap up_turns up, ap up
 done_less : (n m k : Numbers) (was now : Option Which) → was ≡ None → now ≡ None → m ≡ k → turns_left k < turns_left n → turns_left m + up_turns now < turns_left n + up_turns was
 done_less n m k was now up still moved less = omega (arith, ap up_turns up, ap up_turns still, ap turns_left moved, less)
 
+-- a batch takes a segment at least, and none above the last that is stable
+batch_less : (n : Numbers) → MayBack n → turns_left (put_up_to (batch_end n) n) < turns_left n
+batch_less n may = let ends = batch_ends n may in omega (arith, ends.0, ends.1)
+
 module _ {L B T : Type 0} {of_log : L → State} {of_backing : B → State} where
   logs_less : (old new : EngineContent L B) (r : Result T Which) → old.down ≡ None → MayLog old.geometry old.numbers → LogsNext of_log of_backing old new r → turns_of new < turns_of old
   logs_less old new (Ok x) up may does =
@@ -88,7 +93,7 @@ module _ {L B T : Type 0} {of_log : L → State} {of_backing : B → State} wher
   backs_less : (old new : EngineContent L B) (r : Result T Which) → old.down ≡ None → MayBack old.numbers
       → WritesBack of_log of_backing old new r → turns_of new < turns_of old
   backs_less old new (Ok x) up may does =
-      done_less old.numbers new.numbers (put_up_to (old.numbers.back + 1) old.numbers) old.down new.down up does.ok.1 does.ok.0 (omega (arith, may))
+      done_less old.numbers new.numbers (put_up_to (batch_end old.numbers) old.numbers) old.down new.down up does.ok.1 does.ok.0 (batch_less old.numbers may)
   backs_less old new (Err which) up may does =
       failed_less old.numbers new.numbers old.down new.down which up does.failed.1 (ap turns_left does.failed.0)
 

@@ -2,6 +2,7 @@ pub mod Absorbed
 pub mod Absorptions
 pub mod Among
 pub mod Backed
+pub mod Batches
 pub mod Drained
 pub mod Ends
 pub mod Filling

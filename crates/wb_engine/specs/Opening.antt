@@ -126,5 +126,5 @@ pub record IsReady (found : Super) (g : Geometry) (recorded : ℕ) (memory : Mem
   pub sealed : memory.sealed ≡ []
   pub id : memory.current.id ≡ recovered_to found + 1
   pub blocks : memory.current.blocks ≡ []
-  pub plan : places g ≤ plan_room
+  pub plan : 8 * places g ≤ plan_room
   pub scratch : length bytes ≡ 512 * slot_sectors g

@@ -1,10 +1,11 @@
--- The steps of the engine: a segment is logged, the log is synced, a segment is written back, and that is recorded.
-use Rattle.std.specs.Prelude.{ℕ, ◌≡◌, ◌⊎◌, ◌+◌, ◌-◌, ◌*◌, ◌<◌, ◌≤◌, List, [], ◌∷◌, ◌++◌, length, drop, map, All, None, Some, Result, Ok, Err, OnOk, OnErr, IfOk, IfErr}
+-- The steps of the engine: a segment is logged, the log is synced, a batch of segments is written back, and that is recorded.
+use Rattle.std.specs.Prelude.{ℕ, zero, suc, ◌≡◌, ◌⊎◌, ◌+◌, ◌-◌, ◌*◌, ◌<◌, ◌≤◌, List, [], ◌∷◌, ◌++◌, length, drop, map, min, None, Some, Result, Ok, Err, OnOk, OnErr, IfOk, IfErr}
 use Rattle.std.specs.List.{enumerate_from}
 use Rattle.wb_geometry.specs.Image.{Image, bytes_at}
 use Rattle.wb_geometry.specs.Device.{State, Passes, ContentPasses, NothingPending, IsSameDevice, OnlyRead, HasCause, CountsFaultsWhere, next_count}
-use Rattle.wb_geometry.specs.History.{HistoryEntry, last_write, after, PutsPartly}
+use Rattle.wb_geometry.specs.History.{HistoryEntry, later, last_write, after, PutsPartly}
 use Rattle.wb_geometry.specs.Layout.{slot_start}
+use Rattle.wb_geometry.specs.Line.{span}
 use Rattle.wb_geometry.specs.declared.geometry.Geometry.{Geometry}
 use Rattle.wb_geometry.specs.declared.which.Which.{Which}
 use Rattle.wb_geometry.specs.declared.which.Which.TheVariants.{Log, Backing}
@@ -13,13 +14,13 @@ use Rattle.wb_header.specs.Segments.{Segment}
 use Rattle.wb_header.specs.Standing.{entries_of}
 use Rattle.wb_header.specs.declared.sealed.Meta.{Meta}
 use Rattle.wb_super.specs.Recording.{Records, RecordsOrNot}
-use Rattle.wb_log.specs.Kept.{metas_of, metas_at}
+use Rattle.wb_log.specs.Kept.{Kept, metas_of, metas_at}
 use Rattle.wb_log.specs.Writing.{WritesSegment}
 use Rattle.wb_back.specs.Plans.{IsArranged, AreInside}
 use Rattle.wb_crash.specs.Crash.{CrashInCall}
 use Rattle.wb_crash.specs.Numbers.{trying, written, synced, put_up_to, recording}
 use Rattle.wb_crash.specs.declared.numbers.Numbers.{Numbers}
-use Rattle.wb_engine.specs.Content.{EngineContent}
+use Rattle.wb_engine.specs.Content.{EngineContent, AreMetasInside}
 use Rattle.wb_engine.specs.Standing.{Standing, IsSynced, IsOffDevices, line}
 use Rattle.wb_engine.specs.declared.turning.Turn.{Turn}
 use Rattle.wb_engine.specs.declared.turning.Turn.TheVariants as turn
@@ -71,28 +72,51 @@ pub record SyncsLog {L B T : Type 0} (of_log : L → State) (of_backing : B → 
 abbrev pub blocks_in_log : Geometry → Image → (id : ℕ) → List Meta → List TextBlock
 blocks_in_log g x id metas = map (λ p. record { number = p.1.block; bits = p.1.bits; payload = bytes_at x (slot_start g id + 8 * (1 + p.0)) 8 }) (enumerate_from 0 metas)
 
--- The plan's blocks are among those that are kept of the segment, and it puts what stands of them in the log.
-pub record IsPlanOf (g : Geometry) (id : ℕ) (metas : List Meta) (log : State) (planned : List TextBlock) : Type 0 where
-  pub arranged : IsArranged planned
-  pub inside : (sectors : ℕ) → All (λ (meta : Meta). 8 * meta.block + 8 ≤ sectors) metas → AreInside sectors planned
-  pub put : (x : Image) → log.content ≡ Some x → (k : ℕ) → last_write k (entries_of planned) ≡ last_write k (entries_of (blocks_in_log g x id metas))
+-- what they write, by the segment's id
+abbrev pub entries_in_log : Geometry → Image → Kept → (id : ℕ) → List HistoryEntry
+entries_in_log g x kept id = entries_of (blocks_in_log g x id (metas_at kept id))
 
--- The next segment was read from the log, by a read a block at most, and its blocks put to the backing device, which was
--- synced once.
-pub record WritesBack {L B T : Type 0} (of_log : L → State) (of_backing : B → State) (old new : EngineContent L B) (result : Result T Which) : Type 0 where
+-- how many blocks are kept of so many segments behind this one
+abbrev pub blocks_kept : Kept → (id count : ℕ) → ℕ
+blocks_kept kept id zero = 0
+blocks_kept kept id (suc count) = blocks_kept kept id count + length (metas_at kept (id + suc count))
+
+-- The plan's blocks are among those that are kept of the segments behind `back` up to `last`, each of them once. It puts
+-- what stands of them in the log: of each sector the newest that there is.
+pub record IsPlanOf (g : Geometry) (kept : Kept) (back last : ℕ) (log : State) (planned : List TextBlock) : Type 0 where
+  pub arranged : IsArranged planned
+  pub inside : (sectors : ℕ) → ((id : ℕ) → back < id → id ≤ last → AreMetasInside sectors (metas_at kept id)) → AreInside sectors planned
+  pub put : (x : Image) → log.content ≡ Some x → (k : ℕ) → last_write k (entries_of planned) ≡ last_write k (span (entries_in_log g x kept) back (last - back))
+
+-- The blocks of a segment, with what stands of them in the log, were put over what a plan had.
+pub record AddsSegment (g : Geometry) (kept : Kept) (id : ℕ) (log : State) (old new : List TextBlock) : Type 0 where
+  pub put : (x : Image) → log.content ≡ Some x → (k : ℕ) → last_write k (entries_of new) ≡ later (last_write k (entries_of old)) (last_write k (entries_in_log g x kept id))
+  pub inside : (sectors : ℕ) → AreInside sectors old → AreMetasInside sectors (metas_at kept id) → AreInside sectors new
+
+-- The segments up to `last` were read from the log, by a read a block at most, and their blocks put to the backing device,
+-- which was synced once.
+pub record WritesBackThrough {L B T : Type 0} (of_log : L → State) (of_backing : B → State) (last : ℕ) (old new : EngineContent L B) (result : Result T Which) : Type 0 where
   pub planned : List TextBlock
-  pub plan : OnOk result (IsPlanOf old.geometry (old.numbers.back + 1) (metas_at old.memory.logged (old.numbers.back + 1)) (of_log old.log) planned)
+  pub plan : OnOk result (IsPlanOf old.geometry old.memory.logged old.numbers.back last (of_log old.log) planned)
   pub content : OnOk result (ContentPasses (λ y z. z ≡ after y (entries_of planned)) (of_backing old.backing) (of_backing new.backing))
   pub durable : OnOk result (NothingPending (of_backing new.backing))
   pub syncs : OnOk result ((of_backing new.backing).syncs ≡ next_count (of_backing old.backing).syncs)
   pub not_synced : OnErr result (((of_backing old.backing).syncs ≤ (of_backing new.backing).syncs) × ((of_backing new.backing).syncs ≤ next_count (of_backing old.backing).syncs))
   pub only_read : OnlyRead (of_log old.log) (of_log new.log)
-  pub log_reads : (of_log new.log).reads ≤ (of_log old.log).reads + length (metas_at old.memory.logged (old.numbers.back + 1))
+  pub log_reads : (of_log new.log).reads ≤ (of_log old.log).reads + blocks_kept old.memory.logged old.numbers.back (last - old.numbers.back)
   pub reads : (of_backing new.backing).reads ≡ (of_backing old.backing).reads
-  pub ok : OnOk result ((new.numbers ≡ put_up_to (old.numbers.back + 1) old.numbers) × (new.down ≡ None))
+  pub ok : OnOk result ((new.numbers ≡ put_up_to last old.numbers) × (new.down ≡ None))
   pub failed : IfErr result (λ which. (new.numbers ≡ old.numbers) × (new.down ≡ Some which))
   pub log_cause : CountsFaultsWhere (result ≡ Err Log) (of_log old.log).faults (of_log new.log).faults
   pub backing_cause : CountsFaultsWhere (result ≡ Err Backing) (of_backing old.backing).faults (of_backing new.backing).faults
+
+-- the last segment of a batch: the last that is stable, or the eighth that is not written back where there are more
+abbrev pub batch_end : Numbers → ℕ
+batch_end e = min e.stable (e.back + 8)
+
+-- A batch was written back.
+abbrev pub WritesBack : {L B T : Type 0} (of_log : L → State) (of_backing : B → State) (old new : EngineContent L B) → Result T Which → Type 0
+WritesBack of_log of_backing old new result = WritesBackThrough of_log of_backing (batch_end old.numbers) old new result
 
 -- The record was written, by one write and one sync.
 pub record PutsRecord {L B T : Type 0} (of_log : L → State) (of_backing : B → State) (old new : EngineContent L B) (result : Result T Which) : Type 0 where

@@ -44,7 +44,7 @@ impl<L: Device, B: Device> Model for Engine<L, B> {
 
     ghost view = { λ e. record { geometry = e.geometry; numbers = e.numbers; absorbed = e.absorbed; down = e.down; log = e.log; backing = e.backing; memory = e.memory } };
 
-    ghost invariant = { λ e. IsEngine L.state B.state (record { geometry = e.geometry; numbers = e.numbers; absorbed = e.absorbed; down = e.down; log = e.log; backing = e.backing; memory = e.memory }) × (places e.geometry ≤ e.plan.room) × (length e.scratch.items ≡ 512 * slot_sectors e.geometry) };
+    ghost invariant = { λ e. IsEngine L.state B.state (record { geometry = e.geometry; numbers = e.numbers; absorbed = e.absorbed; down = e.down; log = e.log; backing = e.backing; memory = e.memory }) × (8 * places e.geometry ≤ e.plan.room) × (length e.scratch.items ≡ 512 * slot_sectors e.geometry) };
 }
 
 impl<L: Device, B: Device> Engine<L, B> {

@@ -7,6 +7,7 @@ ghost use Rattle.wb_crash.specs.Numbers.{all_at};
 ghost use Rattle.wb_engine.specs.Opening.{IsOpened, HasRecovered, IsReady, RefusesLog, RefusesOpening, SaysLog, MayOpen, cause_of, most_recorded};
 
 use crate::engine::Engine;
+use crate::stepping::BATCH_SEGMENTS;
 use std::alloc::{AllocError, Global};
 use wb_back::Plan;
 use wb_crash::Numbers;
@@ -148,7 +149,7 @@ fn take_memory(alloc: Global, found: &Super) -> Result<Opened, AllocError>
     let geometry = found.geometry;
     let recorded = found.recorded + u64::from(geometry.slots);
     let memory = Memory::new(alloc, &geometry, recorded)?;
-    let plan = Plan::new(alloc, geometry.places() as usize)?;
+    let plan = Plan::new(alloc, BATCH_SEGMENTS as usize * geometry.places() as usize)?;
     let scratch = vec![in alloc; 0; SECTOR_BYTES * geometry.slot_sectors() as usize]?;
     Ok(Opened {
         geometry,

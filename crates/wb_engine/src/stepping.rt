@@ -1,9 +1,9 @@
-//! The steps of the cache: a segment is logged, the log is synced, a segment is written back, and that is recorded.
-ghost use Rattle.std.specs.Prelude.{◌≡◌, ◌↔◌, ◌≤◌, ◌+◌, length, None, IsTrue, OnOk};
+//! The steps of the cache: a segment is logged, the log is synced, a batch of segments is written back, and that is recorded.
+ghost use Rattle.std.specs.Prelude.{◌≡◌, ◌↔◌, ◌<◌, ◌≤◌, ◌+◌, ◌-◌, ◌*◌, ℕ, length, None, IsTrue, OnOk};
 ghost use Rattle.wb_geometry.specs.Device.{OnlyRead, HasCause};
 ghost use Rattle.wb_geometry.specs.Layout.{places, log_sectors};
 ghost use Rattle.wb_log.specs.Kept.{IsThere, metas_at};
-ghost use Rattle.wb_engine.specs.Stepping.{MayLog, MaySync, MayBack, MayRecord, LogsNext, SyncsLog, WritesBack, PutsRecord, IsStep, IsPlanOf, IsFrontKept, IsRecordedGone};
+ghost use Rattle.wb_engine.specs.Stepping.{MayLog, MaySync, MayBack, MayRecord, LogsNext, SyncsLog, WritesBack, WritesBackThrough, PutsRecord, IsStep, IsPlanOf, AddsSegment, blocks_kept, IsFrontKept, IsRecordedGone};
 
 use crate::engine::Engine;
 use wb_back::{Plan, apply};
@@ -15,6 +15,9 @@ use wb_super::write_record;
 
 /// The bytes of a block.
 const BLOCK_BYTES: usize = 4096;
+
+/// The most segments of a batch.
+pub const BATCH_SEGMENTS: u64 = 8;
 
 impl<L: Device, B: Device> Engine<L, B> {
     /// Whether the next segment can be logged: the engine is up, a sealed segment waits, and no segment is in its slot that
@@ -102,21 +105,37 @@ impl<L: Device, B: Device> Engine<L, B> {
         }
     }
 
-    /// Writes the next segment back: reads its blocks from the log, one read a block, writes them to the backing device and
-    /// syncs that; `can_back` holds. After an `Err`, which comes only where that device failed, the engine is down.
+    /// Writes a batch of segments back, those up to the last that is stable, but eight at most. Each of their blocks is read
+    /// from the log, by one read; each sector is written to the backing device once, with the newest of what they have, by
+    /// one write for each run of a block's sectors; and the backing device is synced once. `can_back` holds. After an
+    /// `Err`, which comes only where that device failed, the engine is down.
     pub fn back_batch(&mut self) -> Result<(), Which>
         requires up { self.old.down ≡ None }
         requires may { MayBack self.old.numbers }
         ensures step { IsStep L.state B.state self.old self.new }
         ensures does { WritesBack L.state B.state self.old self.new result }
     {
-        let next = self.numbers.back + 1;
-        if plan_segment(
+        let last = self.numbers.stable.min(self.numbers.back + BATCH_SEGMENTS);
+        self.back_through(last)
+    }
+
+    /// Writes the segments up to this one back, as `back_batch` does. It is stable and not written back, and there are
+    /// eight at most.
+    pub(crate) fn back_through(&mut self, last: u64) -> Result<(), Which>
+        requires up { self.old.down ≡ None }
+        requires some { self.old.numbers.back < last }
+        requires stable { last ≤ self.old.numbers.stable }
+        requires few { last ≤ self.old.numbers.back + 8 }
+        ensures step { IsStep L.state B.state self.old self.new }
+        ensures does { WritesBackThrough L.state B.state last self.old self.new result }
+    {
+        if plan_segments(
             &mut self.plan,
             &mut self.log,
             &self.geometry,
             &self.memory,
-            next,
+            self.numbers.back,
+            last,
         )
         .is_err()
         {
@@ -125,7 +144,7 @@ impl<L: Device, B: Device> Engine<L, B> {
         }
         match apply(&mut self.backing, &self.plan) {
             Ok(()) => {
-                self.numbers.back = next;
+                self.numbers.back = last;
                 Ok(())
             }
             Err(DeviceFault) => {
@@ -165,8 +184,37 @@ impl<L: Device, B: Device> Engine<L, B> {
     }
 }
 
-/// A plan of the blocks of a segment that is in the log, read from there.
-fn plan_segment<L: Device>(
+/// A plan of the blocks of the segments behind `back` up to `last`, which are in the log, read from there.
+fn plan_segments<L: Device>(
+    plan: &mut Plan,
+    log: &mut L,
+    geometry: &Geometry,
+    memory: &Memory,
+    back: u64,
+    last: u64,
+) -> Result<(), DeviceFault>
+    requires some { back < last }
+    requires few { last ≤ back + 8 }
+    requires there { (id : ℕ) → back < id → id ≤ last → IsThere memory.now.logged id }
+    requires places { memory.now.places ≡ places geometry.now }
+    requires room { 8 * places geometry.now ≤ plan.old.room }
+    requires sectors { log_sectors geometry.now ≤ (L.state log.old).sectors }
+    ensures planned { OnOk result (IsPlanOf geometry.now memory.now.logged back last (L.state log.old) plan.new.blocks) }
+    ensures room { plan.new.room ≡ plan.old.room }
+    ensures only_read { OnlyRead (L.state log.old) (L.state log.new) }
+    ensures reads { (L.state log.new).reads ≤ (L.state log.old).reads + blocks_kept memory.now.logged back (last - back) }
+    ensures cause { HasCause (L.state log.old) (L.state log.new) result }
+{
+    plan.clear();
+    for before in back..last {
+        add_segment(plan, log, geometry, memory, before + 1)?;
+    }
+    plan.arrange();
+    Ok(())
+}
+
+/// Puts the blocks of a segment that is in the log over what the plan has.
+fn add_segment<L: Device>(
     plan: &mut Plan,
     log: &mut L,
     geometry: &Geometry,
@@ -176,20 +224,19 @@ fn plan_segment<L: Device>(
     requires id { 1 ≤ id }
     requires there { IsThere memory.now.logged id }
     requires places { memory.now.places ≡ places geometry.now }
-    requires room { places geometry.now ≤ plan.old.room }
+    requires room { length plan.old.blocks + places geometry.now ≤ plan.old.room }
     requires sectors { log_sectors geometry.now ≤ (L.state log.old).sectors }
-    ensures planned { OnOk result (IsPlanOf geometry.now id (metas_at memory.now.logged id) (L.state log.old) plan.new.blocks) }
+    ensures added { OnOk result (AddsSegment geometry.now memory.now.logged id (L.state log.old) plan.old.blocks plan.new.blocks) }
+    ensures few { length plan.new.blocks ≤ length plan.old.blocks + places geometry.now }
     ensures room { plan.new.room ≡ plan.old.room }
     ensures only_read { OnlyRead (L.state log.old) (L.state log.new) }
     ensures reads { (L.state log.new).reads ≤ (L.state log.old).reads + length (metas_at memory.now.logged id) }
     ensures cause { HasCause (L.state log.old) (L.state log.new) result }
 {
-    plan.clear();
     let mut payload = [0; BLOCK_BYTES];
     for index in 0..memory.logged_length(id) {
         read_block(log, geometry, Spot { id, index }, &mut payload)?;
         plan.add(&memory.logged_meta(id, index), &payload);
     }
-    plan.arrange();
     Ok(())
 }

@@ -10,6 +10,7 @@ use Rattle.wb_geometry.specs.declared.which.Which.{Which}
 use Rattle.wb_geometry.proofs.Geometries.{places_few}
 use Rattle.wb_crash.specs.declared.numbers.Numbers.{Numbers}
 use Rattle.wb_engine.specs.Content.{EngineContent, IsEngine, limit_of}
+use Rattle.wb_engine.proofs.Batches.{batch_ends}
 use Rattle.wb_engine.specs.Stepping.{MayBack, LogsNext, SyncsLog, WritesBack, PutsRecord, Moves, IsTurn, Says}
 use Rattle.wb_engine.specs.declared.turning.Turn.{Turn}
 use Rattle.wb_engine.specs.declared.turning.Turn.TheVariants as turn
@@ -34,7 +35,9 @@ module _ {L B T : Type 0} {of_log : L → State} {of_backing : B → State} wher
 
   backs_order : (old new : EngineContent L B) (r : Result T Which) → InOrder old.numbers → MayBack old.numbers
       → WritesBack of_log of_backing old new r → InOrder new.numbers
-  backs_order old new (Ok x) order may does = subst InOrder (sym does.ok.0) (order.0, omega (arith, order.1), omega (arith, may), order.3)
+  backs_order old new (Ok x) order may does =
+      let ends = batch_ends old.numbers may in
+      subst InOrder (sym does.ok.0) (order.0, omega (arith, order.1, ends.0), ends.1, order.3)
   backs_order old new (Err which) order may does = subst InOrder (sym does.failed.0) order
 
   records_order : (old new : EngineContent L B) (r : Result T Which) → InOrder old.numbers → PutsRecord of_log of_backing old new r → InOrder new.numbers

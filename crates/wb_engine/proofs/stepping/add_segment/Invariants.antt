@@ -1,13 +1,12 @@
--- The blocks before this one are in the plan, and the log was only read.
+-- The blocks before this one were put over the plan, and the log was only read.
 use Rattle.std.proofs.Common.{◌≡◌, ◌≤◌, ◌+◌}
 use Rattle.wb_geometry.specs.Device.{OnlyRead}
-use Rattle.wb_log.specs.Kept.{metas_at}
-use Rattle.wb_engine.proofs.Plannings.{IsPlanning}
-use Rattle.wb_engine.proofs.stepping.plan_segment.Given as goal
+use Rattle.wb_engine.proofs.Plannings.{IsAdding}
+use Rattle.wb_engine.proofs.stepping.add_segment.Given as goal
 
 abbrev pub invariant-loop-index : goal.invariant-loop-index
 invariant-loop-index g l =
-    IsPlanning l.fn.geometry l.fn.id (metas_at l.fn.memory.logged l.fn.id) (g.L.Device.state l.fn.log) l.index l.fn.plan.room l.plan
+    IsAdding l.fn.geometry l.fn.memory.logged l.fn.id (g.L.Device.state l.fn.log) l.index l.fn.plan l.plan
     × OnlyRead (g.L.Device.state l.fn.log) (g.L.Device.state l.log)
     × ((g.L.Device.state l.log).faults ≡ (g.L.Device.state l.fn.log).faults)
     × ((g.L.Device.state l.log).reads ≤ (g.L.Device.state l.fn.log).reads + l.index)

@@ -2,13 +2,12 @@ use Rattle.std.proofs.Common.{◌∙◌, inr, refl, sym, rules, arith}
 use Rattle.std.proofs.lemmas.Result.{err_from_is_err_and}
 use Rattle.wb_geometry.proofs.Moments.{only_read, counts_ok, counts_err}
 use Rattle.wb_super.proofs.Superblocks.{reads_only}
-use Rattle.wb_log.specs.Kept.{metas_at}
-use Rattle.wb_engine.proofs.Plannings.{planning_none, planning_more, planning_done, few_there}
-use Rattle.wb_engine.proofs.stepping.plan_segment.Goals as goal
+use Rattle.wb_engine.proofs.Plannings.{adding_none, adding_more, adding_done, few_there}
+use Rattle.wb_engine.proofs.stepping.add_segment.Goals as goal
 
 pub loop-index-init : goal.loop-index-init
 loop-index-init g c = (
-  planning_none c.args.geometry.now c.args.id (metas_at c.args.memory.now.logged c.args.id) (g.L.Device.state c.args.log.now) c.args.plan.now.room c.clear.new.self c.clear.ensures.empty c.clear.ensures.room,
+  adding_none c.args.geometry.now c.args.memory.now.logged c.args.id (g.L.Device.state c.args.log.now) c.args.plan.now,
   only_read (g.L.Device.state c.args.log.now),
   refl,
   omega arith,
@@ -26,6 +25,17 @@ read_block-requires-clause-index g c =
 
 pub read_block-requires-clause-room : goal.read_block-requires-clause-room
 read_block-requires-clause-room g c = omega (arith, c.requires.sectors, c.loop-index.invariant.1.same.size)
+
+pub returns-in_err-read_block-clause-few : goal.returns-in_err-read_block-clause-few
+returns-in_err-read_block-clause-few g c =
+    omega (
+      arith,
+      c.loop-index.invariant.0.few,
+      few_there c.args.memory.now c.args.id c.logged_length-index-end.ensures.sound c.requires.there,
+      c.requires.places,
+      c.logged_length-index-end.ensures.length,
+      c.loop-index-test.true,
+    )
 
 pub returns-in_err-read_block-clause-room : goal.returns-in_err-read_block-clause-room
 returns-in_err-read_block-clause-room g c = c.loop-index.invariant.0.room_is
@@ -58,21 +68,32 @@ add-requires-clause-room g c =
 
 pub loop-index-preserved : goal.loop-index-preserved
 loop-index-preserved g c = (
-  planning_more c.args.geometry.now c.args.id (metas_at c.args.memory.now.logged c.args.id) (g.L.Device.state c.args.log.now) (g.L.Device.state c.loop-index.log) c.loop-index.index
-      c.args.plan.now.room c.logged_meta.result c.read_block.new.into c.loop-index.plan c.add.new.self (omega (arith, c.logged_length-index-end.ensures.length, c.loop-index-test.true))
+  adding_more c.args.geometry.now c.args.memory.now.logged c.args.id (g.L.Device.state c.args.log.now) (g.L.Device.state c.loop-index.log) c.loop-index.index
+      c.logged_meta.result c.read_block.new.into c.args.plan.now c.loop-index.plan c.add.new.self (omega (arith, c.logged_length-index-end.ensures.length, c.loop-index-test.true))
       c.loop-index.invariant.0 c.loop-index.invariant.1.content c.logged_meta.ensures (search rules) c.in_ok-read_block.ensures.ok c.add.ensures.put c.add.ensures.numbers c.add.ensures.room,
   reads_only c.loop-index.invariant.1 c.read_block.ensures.only_read,
   c.in_ok-read_block.ensures.cause.kept ∙ c.loop-index.invariant.2,
   omega (arith, c.loop-index.invariant.3, c.read_block.ensures.reads),
 )
 
-pub returns-clause-planned : goal.returns-clause-planned
-returns-clause-planned g c =
-    planning_done c.args.geometry.now c.args.id (metas_at c.args.memory.now.logged c.args.id) (g.L.Device.state c.args.log.now) c.loop-index.index c.args.plan.now.room c.loop-index.plan
-    c.arrange.new.self (omega (arith, c.loop-index-test.false, c.logged_length-index-end.ensures.length)) c.loop-index.invariant.0 c.arrange.ensures.arranged c.arrange.ensures.same c.arrange.ensures.put
+pub returns-clause-added : goal.returns-clause-added
+returns-clause-added g c =
+    adding_done c.args.geometry.now c.args.memory.now.logged c.args.id (g.L.Device.state c.args.log.now) c.loop-index.index c.args.plan.now c.loop-index.plan
+    (omega (arith, c.loop-index-test.false, c.logged_length-index-end.ensures.length)) c.loop-index.invariant.0
+
+pub returns-clause-few : goal.returns-clause-few
+returns-clause-few g c =
+    omega (
+      arith,
+      c.loop-index.invariant.0.few,
+      c.loop-index.auto.index-end,
+      few_there c.args.memory.now c.args.id c.logged_length-index-end.ensures.sound c.requires.there,
+      c.requires.places,
+      c.logged_length-index-end.ensures.length,
+    )
 
 pub returns-clause-room : goal.returns-clause-room
-returns-clause-room g c = c.arrange.ensures.room ∙ c.loop-index.invariant.0.room_is
+returns-clause-room g c = c.loop-index.invariant.0.room_is
 
 pub returns-clause-only_read : goal.returns-clause-only_read
 returns-clause-only_read g c = c.loop-index.invariant.1
