@@ -200,7 +200,7 @@ impl Intake {
         requires own { pass_name pass.old ≡ name_of self.now }
         requires free { (view_of pass.old).unfilled ≡ [] }
         ensures own { (pass_name pass.new ≡ pass_name pass.old) × (client_of_pass pass.new ≡ client_of_pass pass.old) }
-        ensures through { (cursor : ℕ) × IsLoaded (loads_of pass.old).cursor (loads_of pass.new).cursor cursor × IsRoundedUp (numbers_of self.now).places cursor result.through × (cursor ≤ result.next) }
+        ensures through { (cursor : ℕ) × IsLoaded (loads_of pass.old).cursor (loads_of pass.new).cursor cursor × IsRoundedUp (numbers_of self.now).places cursor result.through × (cursor ≤ result.next) × ((view_of pass.old).seen.cursor ≤ cursor) }
         ensures others { ((loads_of pass.new).limit ≡ (loads_of pass.old).limit) × ((loads_of pass.new).stable ≡ (loads_of pass.old).stable) × ((loads_of pass.new).fault ≡ (loads_of pass.old).fault) × ((loads_of pass.new).cell ≡ (loads_of pass.old).cell) }
         ensures bumped { HasBumped (view_of pass.old) (view_of pass.new) result.next result.through }
         ensures owed { IsOwed (view_of pass.new) (client_of_pass pass.old) result.next result.left }

@@ -59,7 +59,7 @@ impl Intake {
         requires own { seat.old.table_id ≡ self.now.cells.shared.table_id }
         requires owner { ((sight seat.old).view.role ≡ Owner) × ((sight seat.old).view.unfilled ≡ []) }
         ensures seat { IsSameSeat seat.old seat.new }
-        ensures through { (cursor : ℕ) × IsLoaded (sight seat.old).loads.cursor (sight seat.new).loads.cursor cursor × IsRoundedUp self.now.shape.places cursor result.0 × (cursor ≤ result.1) }
+        ensures through { (cursor : ℕ) × IsLoaded (sight seat.old).loads.cursor (sight seat.new).loads.cursor cursor × IsRoundedUp self.now.shape.places cursor result.0 × (cursor ≤ result.1) × ((sight seat.old).view.seen.cursor ≤ cursor) }
         ensures others { ((sight seat.new).loads.limit ≡ (sight seat.old).loads.limit) × ((sight seat.new).loads.stable ≡ (sight seat.old).loads.stable) × ((sight seat.new).loads.fault ≡ (sight seat.old).loads.fault) × ((sight seat.new).loads.cell ≡ (sight seat.old).loads.cell) }
         ensures bumped { HasBumped (sight seat.old).view (sight seat.new).view result.1 result.0 }
         ensures owed { IsOwed (sight seat.new).view (sight seat.old).view.client result.1 (result.0 - result.1) }
