@@ -47,7 +47,7 @@ const ROUND: Session<'static> = Session {
     sectors: 16,
     writes: &[(0, 0, 1), (1, 8, 2), (2, 16, 3)],
     log_calls: 23,
-    backing_calls: 8,
+    backing_calls: 7,
     met: Met {
         cuts: 1 | 2 | 4 | 8,
         flushed: 1,
@@ -72,7 +72,7 @@ clients 1
     sectors: 16,
     writes: &[(0, 0, 1), (1, 8, 2), (2, 16, 3), (3, 24, 4), (4, 32, 5)],
     log_calls: 33,
-    backing_calls: 12,
+    backing_calls: 8,
     met: Met {
         cuts: 1 | 2 | 4 | 8 | 16 | 32,
         flushed: 1 | 2 | 4 | 8,
@@ -86,7 +86,7 @@ const POSTED: Session<'static> = Session {
     sectors: 32,
     writes: &[(0, 8, 0xcc), (3, 0, 0xaa), (6, 16, 0xdd)],
     log_calls: 23,
-    backing_calls: 8,
+    backing_calls: 6,
     met: Met {
         cuts: 1 | 2 | 4 | 8,
         flushed: 1 | 8 | 64,

@@ -9,9 +9,9 @@ const SCRIPT: &str = "\
 clients 1
 0 w 0 1 01
 0 w 8 1 02
-0 w 16 1 03
+0 w 1 1 03
 0 r 0 1
-0 w 1 1 04
+0 w 16 1 04
 0 w 0 1 05
 0 r 8 1
 0 w 24 1 06
@@ -28,9 +28,9 @@ clients 1
 const REQUESTS: [(usize, Option<u8>); 14] = [
     (0, Some(1)),
     (8, Some(2)),
-    (16, Some(3)),
+    (1, Some(3)),
     (0, None),
-    (1, Some(4)),
+    (16, Some(4)),
     (0, Some(5)),
     (8, None),
     (24, Some(6)),
@@ -43,9 +43,10 @@ const REQUESTS: [(usize, Option<u8>); 14] = [
 ];
 
 // The writes among them.
-const WRITES: [(usize, u8); 7] = [(0, 1), (8, 2), (16, 3), (1, 4), (0, 5), (24, 6), (32, 7)];
+const WRITES: [(usize, u8); 7] = [(0, 1), (8, 2), (1, 3), (16, 4), (0, 5), (24, 6), (32, 7)];
 
-// What is called of the log where nothing fails.
+// What is called of the log where nothing fails. Two segments are written back in a batch, of which the first is on the lower
+// block, and the last one by itself.
 const LOG_CALLS: [Call; 39] = [
     // the cache is opened
     Read(0, 1),
@@ -69,8 +70,8 @@ const LOG_CALLS: [Call; 39] = [
     Sync,
     Write(2048, 16),
     Write(2064, 16),
-    Read(2056, 1),
-    Read(2073, 1),
+    Read(2072, 1),
+    Read(2057, 1),
     Sync,
     Read(2056, 8),
     Read(2072, 8),
@@ -95,24 +96,21 @@ const LOG_CALLS: [Call; 39] = [
 const OPENING: usize = 10;
 
 // And of the backing device.
-const BACKING_CALLS: [Call; 18] = [
+const BACKING_CALLS: [Call; 15] = [
     // the cache is opened
     Sync,
     Sync,
     // the session
     Write(0, 1),
-    Sync,
     Write(8, 1),
     Sync,
     Read(8, 1),
-    Write(16, 1),
-    Sync,
     Write(1, 1),
+    Write(16, 1),
     Sync,
     Read(16, 1),
     // the cache is closed
     Write(0, 1),
-    Sync,
     Write(24, 1),
     Sync,
     Write(32, 1),
@@ -133,16 +131,16 @@ const LOG_ROWS: [Row; 29] = [
     (None, 3, 0, 2), // Write(2064, 16)
     (None, 4, 0, 2), // Sync
     (None, 4, 0, 2), // Read(2056, 8)
-    (None, 4, 1, 2), // Read(2072, 8)
+    (None, 4, 0, 2), // Read(2072, 8)
     (None, 4, 2, 2), // Write(2047, 1)
     (None, 4, 2, 4), // Sync
     (None, 4, 2, 4), // Write(2048, 16)
     (None, 5, 2, 4), // Write(2064, 16)
-    (Some(8), 6, 7, 9), // Read(2056, 1)
-    (Some(9), 6, 7, 9), // Read(2073, 1)
+    (Some(8), 6, 7, 9), // Read(2072, 1)
+    (Some(9), 6, 7, 9), // Read(2057, 1)
     (None, 6, 2, 4), // Sync
     (None, 6, 2, 4), // Read(2056, 8)
-    (None, 6, 3, 4), // Read(2072, 8)
+    (None, 6, 2, 4), // Read(2072, 8)
     (None, 6, 4, 4), // Write(2047, 1)
     (None, 6, 4, 6), // Sync
     (None, 6, 4, 6), // Write(2048, 16)
@@ -150,7 +148,7 @@ const LOG_ROWS: [Row; 29] = [
     (None, 7, 4, 6), // Write(2064, 16)
     (None, 7, 4, 6), // Sync
     (None, 7, 4, 6), // Read(2056, 8)
-    (None, 7, 5, 6), // Read(2072, 8)
+    (None, 7, 4, 6), // Read(2072, 8)
     (None, 7, 6, 6), // Write(2047, 1)
     (None, 7, 6, 8), // Sync
     (None, 7, 6, 8), // Write(2048, 16)
@@ -161,20 +159,17 @@ const LOG_ROWS: [Row; 29] = [
 ];
 
 // The calls of the backing device in the session.
-const BACKING_ROWS: [Row; 16] = [
+const BACKING_ROWS: [Row; 13] = [
     (None, 4, 0, 2), // Write(0, 1)
-    (None, 4, 1, 2), // Sync
     (None, 4, 1, 2), // Write(8, 1)
     (None, 4, 2, 2), // Sync
     (Some(6), 6, 7, 9), // Read(8, 1)
-    (None, 6, 2, 4), // Write(16, 1)
-    (None, 6, 3, 4), // Sync
-    (None, 6, 3, 4), // Write(1, 1)
+    (None, 6, 2, 4), // Write(1, 1)
+    (None, 6, 3, 4), // Write(16, 1)
     (None, 6, 4, 4), // Sync
     (Some(13), 7, 7, 9), // Read(16, 1)
     // the cache is closed
     (None, 7, 4, 6), // Write(0, 1)
-    (None, 7, 5, 6), // Sync
     (None, 7, 5, 6), // Write(24, 1)
     (None, 7, 6, 6), // Sync
     (None, 7, 6, 8), // Write(32, 1)
