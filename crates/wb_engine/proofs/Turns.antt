@@ -65,7 +65,9 @@ module _ {L B T U : Type 0} {of_log : L → State} {of_backing : B → State} {o
       → WritesBack of_log of_backing old new s
   backs_alike (BothOk x y) does = record {
     planned = does.planned;
-    plan = does.plan;
+    untouched = λ is. absurd (cc);
+    plan = λ not. does.plan (λ is. absurd (cc));
+    partly = λ is. absurd (cc);
     content = does.content;
     durable = does.durable;
     syncs = does.syncs;
@@ -73,6 +75,7 @@ module _ {L B T U : Type 0} {of_log : L → State} {of_backing : B → State} {o
     only_read = does.only_read;
     log_reads = does.log_reads;
     reads = does.reads;
+    memory = does.memory;
     ok = does.ok;
     failed = tt;
     log_cause = counts_where (err_alike Log (BothOk y x)) (err_alike Log (BothOk x y)) does.log_cause;
@@ -80,7 +83,9 @@ module _ {L B T U : Type 0} {of_log : L → State} {of_backing : B → State} {o
   }
   backs_alike (BothErr which) does = record {
     planned = does.planned;
-    plan = tt;
+    untouched = λ is. does.untouched (err_alike Log (BothErr which) is);
+    plan = λ not. does.plan (λ is. not (err_alike Log (BothErr which) is));
+    partly = λ is. does.partly (err_alike Backing (BothErr which) is);
     content = tt;
     durable = tt;
     syncs = tt;
@@ -88,6 +93,7 @@ module _ {L B T U : Type 0} {of_log : L → State} {of_backing : B → State} {o
     only_read = does.only_read;
     log_reads = does.log_reads;
     reads = does.reads;
+    memory = does.memory;
     ok = tt;
     failed = does.failed;
     log_cause = counts_where (err_alike Log (BothErr which)) (err_alike Log (BothErr which)) does.log_cause;

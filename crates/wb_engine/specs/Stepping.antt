@@ -81,8 +81,8 @@ abbrev pub blocks_kept : Kept → (id count : ℕ) → ℕ
 blocks_kept kept id zero = 0
 blocks_kept kept id (suc count) = blocks_kept kept id count + length (metas_at kept (id + suc count))
 
--- The plan's blocks are among those that are kept of the segments behind `back` up to `last`, each of them once. It puts
--- what stands of them in the log: of each sector the newest that there is.
+-- A plan of the segments behind `back` up to `last`: each block stands once, none is outside a device that all kept ones are
+-- inside, and it puts what stands of them in the log, of each sector the newest that there is.
 pub record IsPlanOf (g : Geometry) (kept : Kept) (back last : ℕ) (log : State) (planned : List TextBlock) : Type 0 where
   pub arranged : IsArranged planned
   pub inside : (sectors : ℕ) → ((id : ℕ) → back < id → id ≤ last → AreMetasInside sectors (metas_at kept id)) → AreInside sectors planned
@@ -93,11 +93,14 @@ pub record AddsSegment (g : Geometry) (kept : Kept) (id : ℕ) (log : State) (ol
   pub put : (x : Image) → log.content ≡ Some x → (k : ℕ) → last_write k (entries_of new) ≡ later (last_write k (entries_of old)) (last_write k (entries_in_log g x kept id))
   pub inside : (sectors : ℕ) → AreInside sectors old → AreMetasInside sectors (metas_at kept id) → AreInside sectors new
 
--- The segments up to `last` were read from the log, by a read a block at most, and their blocks put to the backing device,
--- which was synced once.
+-- The segments up to `last` were read from the log, by no more reads than they have blocks, and their plan was put to the
+-- backing device, which was synced once. Where a read failed the backing device wasn't called, and where that failed each of
+-- its sectors is as it was or as the plan has it.
 pub record WritesBackThrough {L B T : Type 0} (of_log : L → State) (of_backing : B → State) (last : ℕ) (old new : EngineContent L B) (result : Result T Which) : Type 0 where
   pub planned : List TextBlock
-  pub plan : OnOk result (IsPlanOf old.geometry old.memory.logged old.numbers.back last (of_log old.log) planned)
+  pub untouched : result ≡ Err Log → new.backing ≡ old.backing
+  pub plan : (result ≡ Err Log → ⊥) → IsPlanOf old.geometry old.memory.logged old.numbers.back last (of_log old.log) planned
+  pub partly : result ≡ Err Backing → ContentPasses (PutsPartly (entries_of planned)) (of_backing old.backing) (of_backing new.backing)
   pub content : OnOk result (ContentPasses (λ y z. z ≡ after y (entries_of planned)) (of_backing old.backing) (of_backing new.backing))
   pub durable : OnOk result (NothingPending (of_backing new.backing))
   pub syncs : OnOk result ((of_backing new.backing).syncs ≡ next_count (of_backing old.backing).syncs)
@@ -105,6 +108,7 @@ pub record WritesBackThrough {L B T : Type 0} (of_log : L → State) (of_backing
   pub only_read : OnlyRead (of_log old.log) (of_log new.log)
   pub log_reads : (of_log new.log).reads ≤ (of_log old.log).reads + blocks_kept old.memory.logged old.numbers.back (last - old.numbers.back)
   pub reads : (of_backing new.backing).reads ≡ (of_backing old.backing).reads
+  pub memory : new.memory ≡ old.memory
   pub ok : OnOk result ((new.numbers ≡ put_up_to last old.numbers) × (new.down ≡ None))
   pub failed : IfErr result (λ which. (new.numbers ≡ old.numbers) × (new.down ≡ Some which))
   pub log_cause : CountsFaultsWhere (result ≡ Err Log) (of_log old.log).faults (of_log new.log).faults

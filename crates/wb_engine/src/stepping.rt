@@ -105,8 +105,8 @@ impl<L: Device, B: Device> Engine<L, B> {
         }
     }
 
-    /// Writes a batch of segments back, those up to the last that is stable, but eight at most. Each of their blocks is read
-    /// from the log, by one read; each sector is written to the backing device once, with the newest of what they have, by
+    /// Writes a batch of segments back, those up to the last that is stable, but eight at most. Their blocks are read from
+    /// the log, by one read each; each sector is written to the backing device once, with the newest of what they have, by
     /// one write for each run of a block's sectors; and the backing device is synced once. `can_back` holds. After an
     /// `Err`, which comes only where that device failed, the engine is down.
     pub fn back_batch(&mut self) -> Result<(), Which>

@@ -13,7 +13,7 @@ pub enum Turn {
     Logged,
     /// It synced the log.
     Synced,
-    /// It wrote a segment back to the backing device.
+    /// It wrote a batch of segments back to the backing device.
     Backed,
     /// It recorded what is written back.
     Recorded,

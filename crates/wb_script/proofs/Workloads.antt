@@ -1,5 +1,5 @@
 -- The workload is a valid script.
-use Rattle.std.proofs.Common.{ℕ, ◌≡◌, ◌+◌, ◌-◌, ◌*◌, ◌/◌, ◌%◌, ◌^◌, ◌<◌, ◌≤◌, ◌==◌, List, [], ◌∷◌, ◌++◌, map, cond, false, length, get_or, refl, sym, ap, ◌∙◌, zero-add, arith}
+use Rattle.std.proofs.Common.{ℕ, ◌≡◌, ◌+◌, ◌-◌, ◌*◌, ◌/◌, ◌%◌, ◌^◌, ◌<◌, ◌≤◌, ◌==◌, List, [], ◌∷◌, ◌++◌, map, cond, false, length, get_or, refl, sym, ap, subst, ◌∙◌, zero-add, arith}
 use Rattle.std.specs.Int.{w64, to_le_bytes}
 use Rattle.std.specs.List.{All, range_with_len}
 use Rattle.std.proofs.Math.Nat.{mod-lt, mul-le-mul_right}
@@ -7,8 +7,8 @@ use Rattle.std.proofs.lemmas.Bool.{cond_both}
 use Rattle.std.proofs.lemmas.List.Elements.{All-map, All-weaker}
 use Rattle.std.proofs.lemmas.List.FromFn.{map-range_with_len_more, length-range_with_len, get_or-range_with_len, length-map-range_with_len, get_or-map-range_with_len}
 use Rattle.std.proofs.lemmas.List.Sums.{length-filter, sum-map, sum_by-le}
-use Rattle.wb_script.specs.Valid.{IsAsked, IsWithin, IsValid, heard_of, hears_of, shown_by, shown_by_all}
-use Rattle.wb_script.specs.Workload.{drawn_count, drawn_request, drawn_requests, drawn_sector, state_after, workload, workload_clients}
+use Rattle.wb_script.specs.Valid.{IsAsked, IsWithin, IsValid, heard_of, hears_of, requests_at, shown_by, shown_by_all}
+use Rattle.wb_script.specs.Workload.{KeepsTo, drawn_count, drawn_request, drawn_requests, drawn_sector, state_after, workload, workload_clients}
 use Rattle.wb_script.specs.declared.request.Request.{Request}
 use Rattle.wb_script.specs.declared.request.Request.TheVariants.{Write, ReadSum, Flush}
 use Rattle.wb_script.proofs.Owned.{hears}
@@ -54,6 +54,31 @@ all_drawn seed count quarter client sectors below some inside =
     (λ k d at.
     let index = get_or (range_with_len 0 count) k d in
     drawn quarter client sectors index (state_after seed client (index + 1)) below some inside)
+
+-- each stays in its client's quarter
+drawn_kept : (quarter client index state : ℕ) → 1 ≤ quarter → KeepsTo (client * quarter) quarter (drawn_request quarter client index state)
+drawn_kept quarter client index state some =
+    let sector = drawn_sector quarter client state in
+    let count = drawn_count quarter state in
+    let most : count ≤ quarter = omega arith in
+    let first = mod-lt (state / 2 ^ 33 / 64) {m = quarter - count + 1} (omega arith) in
+    cond_both ((index + 1) % 125 == 0) Flush _ (KeepsTo (client * quarter) quarter)
+    (λ _. tt)
+    (λ _. cond_both (index % 2 == 0) (Write sector count (to_le_bytes w64 state) false) (ReadSum sector count) (KeepsTo (client * quarter) quarter)
+    (λ _. (omega arith, omega (arith, first, most)))
+    (λ _. (omega arith, omega (arith, first, most))))
+
+pub workload-kept : (seed count region client : ℕ) → 32 ≤ region → client < workload_clients
+    → All (KeepsTo (client * (region / 4)) (region / 4)) (requests_at (workload seed count region).requests client)
+workload-kept seed count region client some below =
+    let quarter = region / 4 in
+    let of = drawn_requests seed count quarter in
+    let own = get_or-map-range_with_len of 0 workload_clients client client [] below (zero-add client) in
+    subst (All (KeepsTo (client * quarter) quarter)) (sym own)
+    (All-map (KeepsTo (client * quarter) quarter) (λ index. drawn_request quarter client index (state_after seed client (index + 1))) (range_with_len 0 count)
+        (λ k d at.
+        let index = get_or (range_with_len 0 count) k d in
+        drawn_kept quarter client index (state_after seed client (index + 1)) (omega arith)))
 
 -- where all are, none hears a note, and none shows a sector
 none_heard : (sectors client teller : ℕ) (requests : List Request) → All (IsDrawn sectors client) requests → heard_of teller requests ≡ 0

@@ -1,10 +1,10 @@
 -- The workload: the script that a seed gives, of clients that each keep to a quarter of the sectors.
-use Rattle.std.specs.Prelude.{ℕ, zero, suc, ◌+◌, ◌-◌, ◌*◌, ◌/◌, ◌%◌, ◌^◌, ◌==◌, min, map, List, if◌then◌else◌, false}
+use Rattle.std.specs.Prelude.{ℕ, zero, suc, ◌+◌, ◌-◌, ◌*◌, ◌/◌, ◌%◌, ◌^◌, ◌≤◌, ◌==◌, min, map, List, if◌then◌else◌, false}
 use Rattle.std.specs.Int.{w64, to_le_bytes}
 use Rattle.std.specs.List.{range_with_len}
 use Rattle.wb_script.specs.Content.{ScriptContent}
 use Rattle.wb_script.specs.declared.request.Request.{Request}
-use Rattle.wb_script.specs.declared.request.Request.TheVariants.{Write, ReadSum, Flush}
+use Rattle.wb_script.specs.declared.request.Request.TheVariants.{Write, Read, ReadSum, Flush, Defer, Tell, Hear}
 
 -- how many clients there are
 abbrev pub workload_clients : ℕ
@@ -47,3 +47,13 @@ workload seed count region = record {
   sectors = region;
   requests = map (drawn_requests seed count (region / 4)) (range_with_len 0 workload_clients);
 }
+
+-- the request names no sector but of these, which are so many from this one on
+abbrev pub KeepsTo : (first quarter : ℕ) → Request → Type 0
+KeepsTo first quarter (Write sector count pattern fua) = (first ≤ sector) × (sector + count ≤ first + quarter)
+KeepsTo first quarter (Read sector count) = (first ≤ sector) × (sector + count ≤ first + quarter)
+KeepsTo first quarter (ReadSum sector count) = (first ≤ sector) × (sector + count ≤ first + quarter)
+KeepsTo first quarter Flush = Unit {0}
+KeepsTo first quarter Defer = Unit {0}
+KeepsTo first quarter (Tell other) = Unit {0}
+KeepsTo first quarter (Hear other) = Unit {0}

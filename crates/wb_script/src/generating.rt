@@ -1,7 +1,7 @@
 //! The workload: a script that a seed gives (docs/SCRIPT.md).
-ghost use Rattle.std.specs.Prelude.{◌≡◌, ◌+◌, ◌*◌, ◌/◌, ◌%◌, ◌<◌, ◌≤◌, ◌^◌, IfOk};
-ghost use Rattle.wb_script.specs.Valid.{IsValid, IsWithin};
-ghost use Rattle.wb_script.specs.Workload.{workload, next_state, drawn_count, drawn_sector, drawn_request, drawn_requests};
+ghost use Rattle.std.specs.Prelude.{◌≡◌, ◌+◌, ◌*◌, ◌/◌, ◌%◌, ◌<◌, ◌≤◌, ◌^◌, ℕ, All, IfOk};
+ghost use Rattle.wb_script.specs.Valid.{IsValid, requests_at};
+ghost use Rattle.wb_script.specs.Workload.{workload, next_state, drawn_count, drawn_sector, drawn_request, drawn_requests, KeepsTo};
 
 use crate::{Pattern, Request, Requests, Script};
 use std::alloc::{AllocError, Global};
@@ -16,7 +16,8 @@ const FLUSH_PERIOD: u64 = 125;
 const MOST_SECTORS: u64 = 64;
 
 /// The workload of a seed: four clients with `count` requests each, every one in its own quarter of the first `region`
-/// sectors. Each 125th request is a flush, and of the others one is a write and the next a read whose checksum is shown.
+/// sectors. Each 125th request is a flush. Of the others, counted from 0 with the flushes among them, those of even number
+/// are writes, and the rest are reads whose checksum is shown.
 /// `count` is 1 to 25,000; `region` is a positive multiple of 32, and at most 65,536.
 pub fn generate(alloc: Global, seed: u64, count: u64, region: u64) -> Result<Script, AllocError>
     requires some { 1 ≤ count }
@@ -26,6 +27,8 @@ pub fn generate(alloc: Global, seed: u64, count: u64, region: u64) -> Result<Scr
     requires quarters { region % 32 ≡ 0 }
     ensures script { IfOk result (λ script. script ≡ workload seed count region) }
     ensures valid { IfOk result IsValid }
+    ensures quarters { IfOk result (λ script. (client : ℕ) → client < 4
+        → All (KeepsTo (client * (region / 4)) (region / 4)) (requests_at script.requests client)) }
 {
     let mut requests = Vec::with_capacity(alloc, CLIENTS as usize)?;
     for client in 0..CLIENTS {

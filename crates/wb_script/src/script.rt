@@ -47,7 +47,7 @@ impl Requests {
     }
 }
 
-/// A script: the number of clients, the backing sectors that it was parsed for, and the requests of each client.
+/// A script: the number of clients, the backing sectors that it was parsed for or the region that it was generated for, and the requests of each client.
 #[derive(Debug, Drop)]
 pub struct Script {
     clients: u32,

@@ -14,7 +14,9 @@ returns-then-is_err-clause-does g c =
     let counts = failed_counts c.plan_segments.result (sym c.is_err.ensures.value ∙ c.if-is_err.true) c.plan_segments.ensures.cause in
     rw (← c.self.view_is) (record {
       planned = [];
-      plan = tt;
+      untouched = λ _. refl;
+      plan = λ not. absurd (not refl);
+      partly = λ is. absurd (cc);
       content = tt;
       durable = tt;
       syncs = tt;
@@ -22,6 +24,7 @@ returns-then-is_err-clause-does g c =
       only_read = c.plan_segments.ensures.only_read;
       log_reads = c.plan_segments.ensures.reads;
       reads = refl;
+      memory = refl;
       ok = tt;
       failed = (refl, refl);
       log_cause = record { later = counts.0; failed = λ _. counts.1; kept = λ not. absurd (not refl) };
@@ -46,8 +49,10 @@ pub returns-in-Err-clause-does : goal.returns-in-Err-clause-does
 returns-in-Err-clause-does g c =
     let counts = failed_counts c.apply.result (ap is_err c.in-Err.is) c.apply.ensures.cause in
     rw (← c.self.view_is) (record {
-      planned = [];
-      plan = tt;
+      planned = c.plan_segments.new.plan.blocks;
+      untouched = λ is. absurd (cc);
+      plan = λ _. ok_there c.plan_segments.result (sym c.is_err.ensures.value ∙ c.if-is_err.false) c.plan_segments.ensures.planned;
+      partly = λ _. c.in-Err.ensures.err;
       content = tt;
       durable = tt;
       syncs = tt;
@@ -55,6 +60,7 @@ returns-in-Err-clause-does g c =
       only_read = c.plan_segments.ensures.only_read;
       log_reads = c.plan_segments.ensures.reads;
       reads = c.apply.ensures.reads;
+      memory = refl;
       ok = tt;
       failed = (refl, refl);
       log_cause = record { later = c.plan_segments.ensures.cause.later; failed = λ is. absurd (cc); kept = λ _. kept_there c.plan_segments.result (sym c.is_err.ensures.value ∙ c.if-is_err.false) c.plan_segments.ensures.cause };
