@@ -16,11 +16,13 @@ use Rattle.wb_tool.specs.Serve.{ServeAccount}
 use Rattle.wb_tool.specs.Inspect.{InspectEnds, InspectAccount}
 use Rattle.wb_tool.specs.Slot.{SlotAccount}
 use Rattle.wb_tool.specs.Recover.{RecoverAccount}
+use Rattle.wb_tool.specs.Workload.{WorkloadAccount}
 use Rattle.wb_tool.specs.Format.{FormatAccount}
 use Rattle.wb_tool.specs.declared.command.Numbers.{Numbers}
+use Rattle.wb_tool.specs.declared.command.WorkloadNumbers.{WorkloadNumbers}
 use Rattle.wb_tool.specs.declared.command.Command.{Command}
-use Rattle.wb_tool.specs.declared.command.Command.TheVariants.{Format, Serve, Recover, Inspect, InspectSlot}
-use Rattle.wb_tool.specs.Commands.{SpellNumbers, IsServe, IsRecover, IsInspect, IsInspectSlot, IsFormat, IsForm}
+use Rattle.wb_tool.specs.declared.command.Command.TheVariants.{Format, Serve, Recover, Inspect, InspectSlot, Workload}
+use Rattle.wb_tool.specs.Commands.{SpellNumbers, SpellWorkload, IsServe, IsRecover, IsInspect, IsInspectSlot, IsFormat, IsWorkload, IsForm}
 use Rattle.wb_tool.specs.Account.{IsAccounted, UsageAccount}
 use Rattle.std.proofs.lemmas.Fmt.{decimal_injective}
 
@@ -131,6 +133,7 @@ AccountOf Serve run = ServeAccount run
 AccountOf Recover run = RecoverAccount run
 AccountOf Inspect run = InspectAccount run
 AccountOf (InspectSlot slot) run = SlotAccount slot run
+AccountOf (Workload numbers) run = WorkloadAccount numbers run
 
 -- words are of one form
 not_both : (words : List (List ℕ)) → IsServe words → IsInspect words → ⊥
@@ -166,6 +169,34 @@ recover_not_slot slot words recover other = let same = sym recover.are ∙ other
 recover_not_format : (numbers : Numbers) (words : List (List ℕ)) → IsRecover words → IsFormat numbers words → ⊥
 recover_not_format numbers words recover format = let same = sym recover.are ∙ format.are in cc
 
+workload_not_serve : (numbers : WorkloadNumbers) (words : List (List ℕ)) → IsWorkload numbers words → IsServe words → ⊥
+workload_not_serve numbers words workload serve = let same = sym workload.are ∙ serve.are in cc
+
+workload_not_recover : (numbers : WorkloadNumbers) (words : List (List ℕ)) → IsWorkload numbers words → IsRecover words → ⊥
+workload_not_recover numbers words workload recover = let same = sym workload.are ∙ recover.are in cc
+
+workload_not_inspect : (numbers : WorkloadNumbers) (words : List (List ℕ)) → IsWorkload numbers words → IsInspect words → ⊥
+workload_not_inspect numbers words workload inspect = let same = sym workload.are ∙ inspect.are in cc
+
+workload_not_slot : (numbers : WorkloadNumbers) (slot : ℕ) (words : List (List ℕ)) → IsWorkload numbers words → IsInspectSlot slot words → ⊥
+workload_not_slot numbers slot words workload other = let same = sym workload.are ∙ other.are in cc
+
+workload_not_format : (numbers : WorkloadNumbers) (others : Numbers) (words : List (List ℕ)) → IsWorkload numbers words → IsFormat others words → ⊥
+workload_not_format numbers others words workload format = let same = sym workload.are ∙ format.are in cc
+
+same_workload_words : (seed count : List ℕ) (numbers : WorkloadNumbers) → SpellWorkload seed count numbers → (s c : List ℕ) (others : WorkloadNumbers) → SpellWorkload s c others
+    → seed ≡ s → count ≡ c → numbers ≡ others
+same_workload_words seed count numbers spell s c others other same_s same_c =
+    let seeds : numbers.seed ≡ others.seed = decimal_injective numbers.seed others.seed spell.seed_fits other.seed_fits (sym spell.seed_is ∙ same_s ∙ other.seed_is) in
+    let counts : numbers.count ≡ others.count = decimal_injective numbers.count others.count (omega (arith, spell.few)) (omega (arith, other.few)) (sym spell.count_is ∙ same_c ∙ other.count_is) in
+    let made : ℕ → ℕ → WorkloadNumbers = λ a b. record { seed = a; count = b } in
+    ap (λ a. made a numbers.count) seeds ∙ ap (λ b. made others.seed b) counts
+
+same_workload : (words : List (List ℕ)) (numbers others : WorkloadNumbers) → IsWorkload numbers words → IsWorkload others words → numbers ≡ others
+same_workload words numbers others first second =
+    let same = sym first.are ∙ second.are in
+    same_workload_words first.seed first.count numbers first.spelled second.seed second.count others second.spelled (let s = same in cc) (let s = same in cc)
+
 same_slot : (words : List (List ℕ)) (slot other : ℕ) → IsInspectSlot slot words → IsInspectSlot other words → slot ≡ other
 same_slot words slot other first second =
     let same = sym first.are ∙ second.are in
@@ -194,6 +225,7 @@ accounted (Format numbers) words run form account = record {
   format = λ others other. subst (λ n. FormatAccount n run) (same_numbers words numbers others form other) account;
   inspect = λ other. absurd (inspect_not_format numbers words other form);
   slot = λ slot other. absurd (slot_not_format slot numbers words other form);
+  workload = λ others other. absurd (workload_not_format others numbers words other form);
 }
 accounted Serve words run form account = record {
   usage = λ none. absurd (none Serve form);
@@ -202,6 +234,7 @@ accounted Serve words run form account = record {
   format = λ numbers other. absurd (serve_not_format numbers words form other);
   inspect = λ other. absurd (not_both words form other);
   slot = λ slot other. absurd (serve_not_slot slot words form other);
+  workload = λ numbers other. absurd (workload_not_serve numbers words other form);
 }
 accounted Recover words run form account = record {
   usage = λ none. absurd (none Recover form);
@@ -210,6 +243,7 @@ accounted Recover words run form account = record {
   format = λ numbers other. absurd (recover_not_format numbers words form other);
   inspect = λ other. absurd (recover_not_inspect words form other);
   slot = λ slot other. absurd (recover_not_slot slot words form other);
+  workload = λ numbers other. absurd (workload_not_recover numbers words other form);
 }
 accounted Inspect words run form account = record {
   usage = λ none. absurd (none Inspect form);
@@ -218,6 +252,7 @@ accounted Inspect words run form account = record {
   format = λ numbers other. absurd (inspect_not_format numbers words form other);
   inspect = λ _. account;
   slot = λ slot other. absurd (inspect_not_slot slot words form other);
+  workload = λ numbers other. absurd (workload_not_inspect numbers words other form);
 }
 accounted (InspectSlot number) words run form account = record {
   usage = λ none. absurd (none (InspectSlot number) form);
@@ -226,6 +261,17 @@ accounted (InspectSlot number) words run form account = record {
   format = λ numbers other. absurd (slot_not_format number numbers words form other);
   inspect = λ other. absurd (inspect_not_slot number words other form);
   slot = λ slot other. subst (λ (n : ℕ). SlotAccount n run) (same_slot words number slot form other) account;
+  workload = λ numbers other. absurd (workload_not_slot numbers number words other form);
+}
+
+accounted (Workload numbers) words run form account = record {
+  usage = λ none. absurd (none (Workload numbers) form);
+  serve = λ other. absurd (workload_not_serve numbers words form other);
+  recover = λ other. absurd (workload_not_recover numbers words form other);
+  format = λ others other. absurd (workload_not_format numbers others words form other);
+  inspect = λ other. absurd (workload_not_inspect numbers words form other);
+  slot = λ slot other. absurd (workload_not_slot numbers slot words form other);
+  workload = λ others other. subst (λ n. WorkloadAccount n run) (same_workload words numbers others form other) account;
 }
 
 pub usage_accounted : (words : List (List ℕ)) (run : Run) → ((command : Command) → IsForm command words → ⊥) → UsageAccount run → IsAccounted words run
@@ -236,4 +282,5 @@ usage_accounted words run none account = record {
   format = λ numbers form. absurd (none (Format numbers) form);
   inspect = λ form. absurd (none Inspect form);
   slot = λ slot form. absurd (none (InspectSlot slot) form);
+  workload = λ numbers form. absurd (none (Workload numbers) form);
 }

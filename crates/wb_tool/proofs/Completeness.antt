@@ -1,5 +1,5 @@
 -- When a run succeeds.
-use Rattle.std.proofs.Common.{◌≡◌, ◌⊎◌, ◌<◌, ◌≤◌, ◌-◌, ◌*◌, ◌^◌, List, ℕ, true, ap, sym, subst, ◌∙◌, arith, inl, inr, Option, Some, IfSome}
+use Rattle.std.proofs.Common.{◌≡◌, ◌<◌, ◌≤◌, ◌-◌, ◌*◌, ◌^◌, List, [], ℕ, true, length, map, sum, ap, sym, subst, ◌∙◌, arith, inl, inr, Option, Some, IfSome}
 use Rattle.std.proofs.Math.Nat.{mul-le-mul_right}
 use Rattle.wb_geometry.specs.Image.{Image}
 use Rattle.wb_geometry.specs.Layout.{log_sectors}
@@ -21,12 +21,14 @@ use Rattle.wb_tool.proofs.Formatted.{asked_one}
 use Rattle.wb_tool.specs.Run.{Lent, Run, HasFailed, BackingHasFailed, EndsTelling, script_bytes}
 use Rattle.wb_tool.specs.Run as run
 use Rattle.wb_tool.specs.Texts.{super_status}
-use Rattle.wb_tool.specs.Opening.{EndsByLog, EndsByIds, EndsByBacking}
-use Rattle.wb_tool.specs.Serve as serve
-use Rattle.wb_tool.specs.Serve.{HasIds, IsStopped, ServeAccount}
-use Rattle.wb_tool.specs.Served.{Served}
-use Rattle.wb_tool.specs.Stages.{EndsReading}
-use Rattle.wb_script.specs.Output.{session_text}
+use Rattle.wb_tool.specs.Opening.{EndsByLog}
+use Rattle.wb_tool.specs.Ends.{Leaves, EndsUnopened, IsStopped, EndsServing, ServingAccount}
+use Rattle.wb_tool.specs.Serve.{EndsReading, IsLeftFrom, ServeAccount}
+use Rattle.wb_tool.specs.Served.{Served, ServedTelling}
+use Rattle.wb_tool.specs.Workload.{WorkloadAccount, EndsWorkload, IsLeftByWorkload, ServedWorkload, region_of}
+use Rattle.wb_tool.specs.declared.command.WorkloadNumbers.{WorkloadNumbers}
+use Rattle.wb_tool.proofs.Counts.{all_requests}
+use Rattle.wb_script.specs.Workload.{workload}
 use Rattle.wb_replay.specs.Stopping.{IsFirstStray, RefusesRecovery}
 use Rattle.wb_replay.specs.declared.recovering.RecoverStop.{RecoverStop}
 use Rattle.wb_replay.specs.declared.recovering.RecoverStop.TheVariants as cause
@@ -75,9 +77,7 @@ same_record s g image found ready super = sym (subst (λ (content : Option Image
 
 -- its cache is opened, but where the log fails
 opens : (sink : Lent) (s : State) (g : Geometry) (image : Image) (sectors status : ℕ) → IsReady s g image → g.backing_sectors ≤ sectors
-    → EndsByLog sink s status ⊎ ((found : Super) × IsSuper s found × EndsByIds found sink status)
-    ⊎ ((found : Super) × IsSuper s found × HasIds found × EndsByBacking found.geometry.backing_sectors sectors sink status)
-    → status ≡ 6
+    → EndsUnopened sink s sectors status → status ≡ 6
 opens sink s g image sectors status ready room (inl refused) = log_fault sink s status image g ready.device ready.told ready.text ready.bounded refused
 opens sink s g image sectors status ready room (inr (inl (found, super, spent))) = absurd (
     let same = ap (λ (h : Geometry). h.slots) (same_geometry s image g found ready.told ready.text super) in
@@ -87,11 +87,10 @@ opens sink s g image sectors status ready room (inr (inr (found, super, ids, sma
     omega (arith, small.few, same, room))
 
 -- a session takes fewer places than are left
-not_spent : (before after : Devices) (g : Geometry) (image : Image) (input : List ℕ) (script : ScriptContent) (found : Super) (report : Report)
-    → IsReady before.log g image → IsScript g.backing_sectors (script_bytes input) script
+not_spent : (before after : Devices) (g : Geometry) (image : Image) (script : ScriptContent) (found : Super) (report : Report)
+    → IsReady before.log g image → sum (map length script.requests) ≤ 250000
     → IsSession found script before after report → report.ids ≡ true → ⊥
-not_spent before after g image input script found report ready good session spent =
-    let few = few_requests g.backing_sectors (script_bytes input) script good in
+not_spent before after g image script found report ready few session spent =
     let places_taken = session.few in
     let all = (session.ids_spent (session.ids_told spent)).1 in
     let each = (places_few found.geometry).0 in
@@ -100,43 +99,7 @@ not_spent before after g image input script found report ready good session spen
     let more : 1 * (2 ^ 48 - recovered_to found) ≤ layout.places found.geometry * (2 ^ 48 - recovered_to found) = mul-le-mul_right (2 ^ 48 - recovered_to found) each in
     omega (arith, few, places_taken, all, left, more)
 
--- the status isn't that of a log that failed
-not_at_6 : (r : Run) → ServeAccount r → NoFault r → r.status ≡ 6 → ⊥
-not_at_6 r account fine six = fine.fine.log ((account.log_faults (λ one. omega arith)).failed six)
-
--- nor that of a backing device that did
-not_at_7 : (r : Run) → ServeAccount r → NoFault r → r.status ≡ 7 → ⊥
-not_at_7 r account fine seven = fine.backing ((account.backing_faults (λ one. omega arith) (λ six. omega arith)).failed seven)
-
--- a session succeeds, where nothing failed
-session_well : (r : Run) (g : Geometry) (image : Image) (input : List ℕ) (script : ScriptContent) → NoFault r → ServeAccount r → IsReady r.before.log g image
-    → IsScript g.backing_sectors (script_bytes input) script
-    → Served script r → Succeeds r
-session_well r g image input script fine account ready good served =
-    elim served.ends [
-      | inl failed ↦ absurd (not_at_6 r account fine failed.1)
-      | inr rest ↦ elim rest [
-        | inl failed ↦ absurd (not_at_7 r account fine failed.2)
-        | inr rest ↦ elim rest [
-          | inl spent ↦ absurd (not_spent r.before r.after g image input script served.found _ ready good served.session spent.1)
-          | inr told ↦ told_well r (session_text script r.transcripts r.places) fine.fine told.2
-        ]
-      ]
-    ]
-
--- the script that the source spells is the good one
-the_good : (source : Lent) (sectors : ℕ) (input : List ℕ) (script : ScriptContent) → source.before ≡ Some input → run.Spells sectors source script → IsScript sectors (script_bytes input) script
-the_good source sectors input script told spelled =
-    let here : IsTheScript sectors (script_bytes input) script = subst (λ (t : Option (List ℕ)). IfSome t (λ bytes. IsTheScript sectors (script_bytes bytes) script)) told spelled in here.is
-
--- the log isn't smaller than the script was parsed for
-not_changed : (s : State) (g : Geometry) (image : Image) (bytes : List ℕ) (script : ScriptContent) (found : Super) → IsReady s g image → IsScript g.backing_sectors bytes script
-    → IsSuper s found → found.geometry.backing_sectors < script.sectors → ⊥
-not_changed s g image bytes script found ready good super fewer =
-    let same = ap (λ (h : Geometry). h.backing_sectors) (same_geometry s image g found ready.told ready.text super) in
-    omega (arith, same, good.sectors_are, fewer)
-
--- no slot of it is refused
+-- no slot of the log is refused
 not_stray : (s : State) (g : Geometry) (image : Image) (found : Super) (slot id : ℕ) → s.content ≡ Some image → SuperText image g 1 → IsTidy g image → IsSuper s found
     → IsFirstStray found.geometry (recovered_to found) s slot id → ⊥
 not_stray s g image found slot id told text tidy super (below, above, first) =
@@ -149,49 +112,111 @@ not_stray s g image found slot id told text tidy super (below, above, first) =
     let same : header_id g image slot ≡ id = subst (λ (h : Geometry). header_id h image slot ≡ id) geometry here in
     omega (arith, same, tidy slot inside, number, above, slots)
 
--- so nothing but a fault stops it as the cache is opened
-not_stopped : (r : Run) (g : Geometry) (image : Image) (bytes : List ℕ) (script : ScriptContent) → NoFault r → ServeAccount r → IsReady r.before.log g image → IsScript g.backing_sectors bytes script
-    → IsStopped script.sectors r → ⊥
-not_stopped r g image bytes script fine account ready good (none, inl stray) =
-    not_stray r.before.log g image stray.stopped.found stray.slot stray.id ready.told ready.text ready.tidy stray.stopped.went.may.super stray.stopped.refused
-not_stopped r g image bytes script fine account ready good (none, inr (inl failed)) = not_at_6 r account fine failed.ended
-not_stopped r g image bytes script fine account ready good (none, inr (inr (inl failed))) = not_at_7 r account fine failed.ended
-not_stopped r g image bytes script fine account ready good (none, inr (inr (inr change))) =
-    not_changed r.before.log g image bytes script change.found ready good change.recovered.went.may.super change.fewer
+-- a run of a command that serves a session, where the log is good and neither device failed
+module _ (Ends Wants : Run → Type 0) (r : Run) (g : Geometry) (image : Image) (fine : NoLogFault r) (backing : BackingHasFailed r → ⊥) where
+  -- the status isn't that of a log that failed
+  not_at_6 : Leaves Ends Wants r → r.status ≡ 6 → ⊥
+  not_at_6 leaves six = fine.log ((leaves.log_faults (λ one. omega arith)).failed six)
 
-scripted_well : (r : Run) (g : Geometry) (image : Image) (input : List ℕ) → NoFault r → ServeAccount r → IsReady r.before.log g image → g.backing_sectors ≤ r.before.backing.sectors
-    → r.source.before ≡ Some input → serve.IsScripted g.backing_sectors r → Succeeds r
-scripted_well r g image input fine account ready room told scripted =
-    let good : IsScript g.backing_sectors (script_bytes input) scripted.script = the_good r.source g.backing_sectors input scripted.script told scripted.spelled in
-    elim scripted.ends [
-      | inl unbegun ↦ absurd (not_at_6 r account fine (opens r.sink r.before.log g image r.before.backing.sectors r.status ready room unbegun.1))
+  -- nor that of a backing device that did
+  not_at_7 : Leaves Ends Wants r → r.status ≡ 7 → ⊥
+  not_at_7 leaves seven = backing ((leaves.backing_faults (λ one. omega arith) (λ six. omega arith)).failed seven)
+
+  -- a session succeeds
+  session_well : (front text : List ℕ) (script : ScriptContent) → Leaves Ends Wants r → IsReady r.before.log g image → sum (map length script.requests) ≤ 250000
+      → ServedTelling front text script r → Succeeds r
+  session_well front text script leaves ready few served =
+      elim served.ends [
+        | inl failed ↦ absurd (not_at_6 leaves failed.1)
+        | inr rest ↦ elim rest [
+          | inl failed ↦ absurd (not_at_7 leaves failed.2)
+          | inr rest ↦ elim rest [
+            | inl spent ↦ absurd (not_spent r.before r.after g image script served.found _ ready few served.session spent.1)
+            | inr told ↦ told_well r text fine told.2
+          ]
+        ]
+      ]
+
+  -- the log isn't smaller than the script was made for
+  not_changed : (parsed : ℕ) (found : Super) → IsReady r.before.log g image → parsed ≤ g.backing_sectors
+      → IsSuper r.before.log found → found.geometry.backing_sectors < parsed → ⊥
+  not_changed parsed found ready fits super fewer =
+      let same = ap (λ (h : Geometry). h.backing_sectors) (same_geometry r.before.log image g found ready.told ready.text super) in
+      omega (arith, same, fits, fewer)
+
+  -- so nothing but a fault stops it as the cache is opened
+  not_stopped : (parsed : ℕ) → Leaves Ends Wants r → IsReady r.before.log g image → parsed ≤ g.backing_sectors → IsStopped parsed r → ⊥
+  not_stopped parsed leaves ready fits (none, inl stray) =
+      not_stray r.before.log g image stray.stopped.found stray.slot stray.id ready.told ready.text ready.tidy stray.stopped.went.may.super stray.stopped.refused
+  not_stopped parsed leaves ready fits (none, inr (inl failed)) = not_at_6 leaves failed.ended
+  not_stopped parsed leaves ready fits (none, inr (inr (inl failed))) = not_at_7 leaves failed.ended
+  not_stopped parsed leaves ready fits (none, inr (inr (inr change))) =
+      not_changed parsed change.found ready fits change.recovered.went.may.super change.fewer
+
+  -- behind a script it succeeds where its session does
+  serving_well : (Serves : Run → Type 0) (parsed : ℕ) → Leaves Ends Wants r → IsReady r.before.log g image → g.backing_sectors ≤ r.before.backing.sectors → parsed ≤ g.backing_sectors
+      → (Serves r → Succeeds r) → EndsServing Serves parsed r → Succeeds r
+  serving_well Serves parsed leaves ready room fits well (inl unbegun) = absurd (not_at_6 leaves (opens r.sink r.before.log g image r.before.backing.sectors r.status ready room unbegun.1))
+  serving_well Serves parsed leaves ready room fits well (inr (inl broken)) = absurd (not_stopped parsed leaves ready fits broken)
+  serving_well Serves parsed leaves ready room fits well (inr (inr served)) = well served
+
+-- and before, where it does behind good devices
+opened_well : (Ends Wants : (sectors : ℕ) → Run → Type 0) (r : Run) (g : Geometry) (image : Image) → NoLogFault r → (BackingHasFailed r → ⊥) → ServingAccount Ends Wants r
+    → IsReady r.before.log g image → g.backing_sectors ≤ r.before.backing.sectors → (Ends g.backing_sectors r → Succeeds r) → Succeeds r
+opened_well Ends Wants r g image fine backing account ready room well =
+    elim account.ends [
+      | inl one ↦ inr one
       | inr rest ↦ elim rest [
-        | inl broken ↦ absurd (not_stopped r g image (script_bytes input) scripted.script fine account ready good broken)
-        | inr served ↦ session_well r g image input scripted.script fine account ready good served
+        | inl unserved ↦ absurd (not_at_6 _ _ r g image fine backing account (opens r.sink r.before.log g image r.before.backing.sectors r.status ready room unserved.ends))
+        | inr opened ↦
+            let same = same_geometry r.before.log image g opened.found ready.told ready.text opened.super in
+            well (subst (λ (h : Geometry). Ends h.backing_sectors r) same opened.ends)
       ]
     ]
+
+-- the script that the source spells is the good one
+the_good : (source : Lent) (sectors : ℕ) (input : List ℕ) (script : ScriptContent) → source.before ≡ Some input → run.Spells sectors source script → IsScript sectors (script_bytes input) script
+the_good source sectors input script told spelled =
+    let here : IsTheScript sectors (script_bytes input) script = subst (λ (t : Option (List ℕ)). IfSome t (λ bytes. IsTheScript sectors (script_bytes bytes) script)) told spelled in here.is
 
 read_well : (r : Run) (g : Geometry) (image : Image) (input : List ℕ) (script : ScriptContent) → NoFault r → ServeAccount r → IsReady r.before.log g image → g.backing_sectors ≤ r.before.backing.sectors
     → r.source.before ≡ Some input → IsScript g.backing_sectors (script_bytes input) script → EndsReading g.backing_sectors r → Succeeds r
 read_well r g image input script fine account ready room told good (inl (none, inl failed)) = absurd (fine.source failed.failed)
 read_well r g image input script fine account ready room told good (inl (none, inr refused)) =
     absurd (not_script r.source g.backing_sectors refused.line refused.cause input script told good refused.refused)
-read_well r g image input script fine account ready room told good (inr scripted) = scripted_well r g image input fine account ready room told scripted
+read_well r g image input script fine account ready room told good (inr scripted) =
+    let is : IsScript g.backing_sectors (script_bytes input) scripted.script = the_good r.source g.backing_sectors input scripted.script told scripted.spelled in
+    let few : sum (map length scripted.script.requests) ≤ 250000 = omega (arith, few_requests g.backing_sectors (script_bytes input) scripted.script is) in
+    serving_well _ _ r g image fine.fine fine.backing (Served scripted.script) scripted.script.sectors account ready room (omega (arith, is.sectors_are))
+    (session_well _ _ r g image fine.fine fine.backing _ _ scripted.script account ready few) scripted.ends
+
+-- what is told of the log
+ready_of : (r : Run) → IsDevice r.before.log → (g : Geometry) → (formatted : TellsFormatted r g) → IsTidy g formatted.image → LeavesIds g formatted.image → IsReady r.before.log g formatted.image
+ready_of r device g formatted tidy ids = record { device = device; told = formatted.told; text = formatted.text; bounded = formatted.bounded; tidy = tidy; ids = ids }
 
 serve_complete : (r : Run) → IsDevice r.before.log → ServeAccount r → NoFault r → (g : Geometry) → (formatted : TellsFormatted r g) → IsTidy g formatted.image → LeavesIds g formatted.image
     → g.backing_sectors ≤ r.before.backing.sectors → IsScripted r g → Succeeds r
 serve_complete r device account fine g formatted tidy ids room scripted =
-    let ready : IsReady r.before.log g formatted.image = record { device = device; told = formatted.told; text = formatted.text; bounded = formatted.bounded; tidy = tidy; ids = ids } in
-    elim account.ends [
-      | inl one ↦ inr one
-      | inr rest ↦ elim rest [
-        | inl unserved ↦ absurd (not_at_6 r account fine (opens r.sink r.before.log g formatted.image r.before.backing.sectors r.status ready room unserved.ends))
-        | inr opened ↦
-            let same = same_geometry r.before.log formatted.image g opened.found formatted.told formatted.text opened.super in
-            read_well r g formatted.image scripted.input scripted.script fine account ready room scripted.told scripted.good
-            (subst (λ (h : Geometry). EndsReading h.backing_sectors r) same opened.ends)
-      ]
-    ]
+    let ready = ready_of r device g formatted tidy ids in
+    opened_well EndsReading IsLeftFrom r g formatted.image fine.fine fine.backing account ready room
+    (read_well r g formatted.image scripted.input scripted.script fine account ready room scripted.told scripted.good)
+
+workload_well : (numbers : WorkloadNumbers) (r : Run) (g : Geometry) (image : Image) → numbers.count ≤ 25000 → NoLogFault r → (BackingHasFailed r → ⊥) → WorkloadAccount numbers r
+    → IsReady r.before.log g image → g.backing_sectors ≤ r.before.backing.sectors → 32 ≤ g.backing_sectors → EndsWorkload numbers g.backing_sectors r → Succeeds r
+workload_well numbers r g image few fine backing account ready room some (inl (none, small)) = absurd (omega (arith, small.few, some))
+workload_well numbers r g image few fine backing account ready room some (inr (large, ends)) =
+    let region : ℕ = region_of g.backing_sectors in
+    let counted : sum (map length (workload numbers.seed numbers.count region).requests) ≤ 250000 = omega (arith, all_requests numbers.seed numbers.count region, few) in
+    serving_well _ _ r g image fine backing (ServedWorkload numbers region) region account.account ready room (omega arith)
+    (λ served. session_well _ _ r g image fine backing [] _ (workload numbers.seed numbers.count region) account.account ready counted served.served) ends
+
+workload_complete : (numbers : WorkloadNumbers) (r : Run) → IsDevice r.before.log → numbers.count ≤ 25000 → WorkloadAccount numbers r → NoLogFault r → (BackingHasFailed r → ⊥)
+    → (g : Geometry) → (formatted : TellsFormatted r g) → IsTidy g formatted.image → LeavesIds g formatted.image
+    → g.backing_sectors ≤ r.before.backing.sectors → 32 ≤ g.backing_sectors → Succeeds r
+workload_complete numbers r device few account fine backing g formatted tidy ids room some =
+    let ready = ready_of r device g formatted tidy ids in
+    opened_well (EndsWorkload numbers) (IsLeftByWorkload numbers) r g formatted.image fine backing account.account ready room
+    (workload_well numbers r g formatted.image few fine backing account ready room some)
 
 inspect_complete : (r : Run) → IsDevice r.before.log → InspectAccount r → NoLogFault r → (g : Geometry) → TellsFormatted r g → Succeeds r
 inspect_complete r device account fine g formatted =
@@ -273,4 +298,5 @@ complete words r device account = record {
   format = λ numbers form. format_complete numbers r (account.format numbers form);
   inspect = λ form. inspect_complete r device (account.inspect form);
   slot = λ slot form. slot_complete slot r device (account.slot slot form);
+  workload = λ numbers form. workload_complete numbers r device form.spelled.few (account.workload numbers form);
 }

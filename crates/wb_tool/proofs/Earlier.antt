@@ -1,5 +1,5 @@
 -- A run of which the log was read before: what it answers for holds from the log's earlier state on.
-use Rattle.std.proofs.Common.{◌≡◌, ◌⊎◌, ◌≤◌, ℕ, inl, inr}
+use Rattle.std.proofs.Common.{◌≡◌, ◌⊎◌, ℕ, List, [], inl, inr}
 use Rattle.wb_geometry.specs.Device.{State, OnlyRead}
 use Rattle.wb_super.specs.Found.{IsSuper}
 use Rattle.wb_super.specs.declared.reading.Super.{Super}
@@ -8,16 +8,16 @@ use Rattle.wb_replay.specs.declared.replaying.ReplayStop.TheVariants as stop
 use Rattle.wb_replay.proofs.Turns.{synced_by_reads, synced_then}
 use Rattle.wb_script.specs.Content.{ScriptContent}
 use Rattle.wb_tool.specs.Run.{Run, Lent}
-use Rattle.wb_tool.specs.Opening.{EndsByLog, EndsByIds, EndsByBacking}
-use Rattle.wb_tool.specs.Serve.{IsUnbegun, IsStopped, IsOpened, IsUnserved, HasIds, IsLeftFrom, ServeAccount}
-use Rattle.wb_tool.specs.Stages.{Leaves, EndsServing, EndsReading}
-use Rattle.wb_tool.proofs.Moved.{super_before, refuses_before, AreDevices, recovered_before, stopped_before, earlier, cut_before, served_before}
+use Rattle.wb_tool.specs.Served.{Served}
+use Rattle.wb_tool.specs.Ends.{Leaves, HasIds, EndsUnopened, IsUnbegun, IsLeftBy, IsStopped, EndsServing, IsUnserved, IsOpened, ServingAccount}
+use Rattle.wb_tool.specs.Serve.{EndsReading, IsLeftFrom}
+use Rattle.wb_tool.specs.Stages.{IsGood}
+use Rattle.wb_tool.specs.Workload.{ServedWorkload, EndsWorkload, IsLeftByWorkload, line_of, script_of, region_of}
+use Rattle.wb_tool.specs.declared.command.WorkloadNumbers.{WorkloadNumbers}
+use Rattle.wb_tool.proofs.Moved.{super_before, refuses_before, AreDevices, recovered_before, stopped_before, earlier, cut_before, base_after, served_before}
 
 unopened_before : (sink : Lent) (old mid : State) (sectors status : ℕ) → OnlyRead old mid
-    → EndsByLog sink mid status ⊎ ((found : Super) × IsSuper mid found × EndsByIds found sink status)
-    ⊎ ((found : Super) × IsSuper mid found × HasIds found × EndsByBacking found.geometry.backing_sectors sectors sink status)
-    → EndsByLog sink old status ⊎ ((found : Super) × IsSuper old found × EndsByIds found sink status)
-    ⊎ ((found : Super) × IsSuper old found × HasIds found × EndsByBacking found.geometry.backing_sectors sectors sink status)
+    → EndsUnopened sink mid sectors status → EndsUnopened sink old sectors status
 unopened_before sink old mid sectors status read (inl refused) =
     inl (record { cause = refused.cause; why = refuses_before old mid read.same.size read.content refused.cause refused.why; ended = refused.ended; told = refused.told })
 unopened_before sink old mid sectors status read (inr (inl spent)) = inr (inl (spent.0, super_before old mid read spent.0 spent.1, spent.2))
@@ -51,14 +51,14 @@ stops_before old parsed run are (none, ends) = (
   ],
 )
 
-serving_before : (old : State) (script : ScriptContent) (run : Run) → AreDevices old run.before → run.before.log.faults ≡ old.faults → EndsServing script run
-    → EndsServing script (Earlier old run)
-serving_before old script run are kept (inl (unbegun, unopened)) =
+serving_before : (Ends : Run → Type 0) (old : State) (parsed : ℕ) (run : Run) → AreDevices old run.before → (Ends run → Ends (Earlier old run))
+    → EndsServing Ends parsed run → EndsServing Ends parsed (Earlier old run)
+serving_before Ends old parsed run are before (inl (unbegun, unopened)) =
     inl (unbegun_before old run are.read unbegun, unopened_before run.sink old run.before.log run.before.backing.sectors run.status are.read unopened)
-serving_before old script run are kept (inr (inl stopped)) = inr (inl (stops_before old script.sectors run are stopped))
-serving_before old script run are kept (inr (inr served)) = inr (inr (served_before script old run are.read kept served))
+serving_before Ends old parsed run are before (inr (inl stopped)) = inr (inl (stops_before old parsed run are stopped))
+serving_before Ends old parsed run are before (inr (inr served)) = inr (inr (before served))
 
-reading_before : (old : State) (sectors : ℕ) (run : Run) → AreDevices old run.before → run.before.log.faults ≡ old.faults → EndsReading sectors run
+pub reading_before : (old : State) (sectors : ℕ) (run : Run) → AreDevices old run.before → run.before.log.faults ≡ old.faults → EndsReading sectors run
     → EndsReading sectors (Earlier old run)
 reading_before old sectors run are kept (inl (unbegun, inl source)) =
     inl (unbegun_before old run are.read unbegun, inl (record { failed = source.failed; ended = source.ended; told = source.told }))
@@ -82,33 +82,53 @@ reading_before old sectors run are kept (inr scripted) = inr (record {
   script = scripted.script;
   spelled = scripted.spelled;
   at_end = scripted.at_end;
-  ends = serving_before old scripted.script run are kept scripted.ends;
+  ends = serving_before (Served scripted.script) old scripted.script.sectors run are (served_before _ _ scripted.script old run are.read kept) scripted.ends;
 })
 
-opened : (run : Run) (found : Super) → IsSuper run.before.log found → HasIds found → found.geometry.backing_sectors ≤ run.before.backing.sectors
-    → (run.status ≡ 1) ⊎ EndsReading found.geometry.backing_sectors run → (run.status ≡ 1) ⊎ IsUnserved run ⊎ IsOpened run
-opened run found super ids room (inl one) = inl one
-opened run found super ids room (inr ends) = inr (inr (record { found = found; super = super; ids = ids; room = room; ends = ends }))
+workload_served_before : (numbers : WorkloadNumbers) (region : ℕ) (old : State) (run : Run) → OnlyRead old run.before.log → run.before.log.faults ≡ old.faults
+    → ServedWorkload numbers region run → ServedWorkload numbers region (Earlier old run)
+workload_served_before numbers region old run read kept served = record {
+  sum = served.sum;
+  served = served_before [] (line_of numbers region served.sum) (script_of numbers region) old run read kept served.served;
+  history = λ tells base is. served.history tells base (base_after old run.before served.served.found base read is);
+  device = served.device;
+}
 
-ends_before : (old : State) (sectors : ℕ) (run : Run) → AreDevices old run.before → run.before.log.faults ≡ old.faults
-    → (run.status ≡ 1) ⊎ EndsReading sectors run → (run.status ≡ 1) ⊎ EndsReading sectors (Earlier old run)
-ends_before old sectors run are kept (inl one) = inl one
-ends_before old sectors run are kept (inr ends) = inr (reading_before old sectors run are kept ends)
+pub workload_before : (numbers : WorkloadNumbers) (old : State) (sectors : ℕ) (run : Run) → AreDevices old run.before → run.before.log.faults ≡ old.faults
+    → EndsWorkload numbers sectors run → EndsWorkload numbers sectors (Earlier old run)
+workload_before numbers old sectors run are kept (inl (unbegun, small)) = inl (unbegun_before old run are.read unbegun, small)
+workload_before numbers old sectors run are kept (inr (some, ends)) =
+    inr (some, serving_before (ServedWorkload numbers (region_of sectors)) old (region_of sectors) run are (workload_served_before numbers (region_of sectors) old run are.read kept) ends)
 
 -- want of memory behind that reading
-left_before : (old : State) (sectors : ℕ) (run : Run) → AreDevices old run.before → run.before.log.faults ≡ old.faults → IsLeftFrom sectors run → IsLeftFrom sectors (Earlier old run)
-left_before old sectors run are kept (inl (log, backing)) = inl (reads_only are.read log, backing)
-left_before old sectors run are kept (inr (script, spelled, inl (log, backing))) = inr (script, spelled, inl (synced_then (synced_by_reads are.read) log, backing))
-left_before old sectors run are kept (inr (script, spelled, inr (inl (found, recovered)))) = inr (script, spelled, inr (inl (found, recovered_before found are recovered)))
-left_before old sectors run are kept (inr (script, spelled, inr (inr (found, cut)))) =
-    inr (script, spelled, inr (inr (found, cut_before old run.before run.after found script are.read kept cut)))
 
--- a log whose superblock is good was read, and then the source
-pub serve_account : (old : State) (run : Run) (found : Super) → AreDevices old run.before → run.before.log.faults ≡ old.faults → IsSuper old found → HasIds found
-    → found.geometry.backing_sectors ≤ run.before.backing.sectors → Leaves (EndsReading found.geometry.backing_sectors) (IsLeftFrom found.geometry.backing_sectors) run → ServeAccount (Earlier old run)
-serve_account old run found are kept super ids room leaves = record {
-  log_faults = rw kept at leaves.log_faults;
-  backing_faults = leaves.backing_faults;
-  wanting = λ one. inr (found, super, left_before old found.geometry.backing_sectors run are kept (leaves.wanting one));
-  ends = opened (Earlier old run) found super ids room (ends_before old found.geometry.backing_sectors run are kept leaves.ends);
-}
+left_by_before : (script : ScriptContent) (old : State) (run : Run) → AreDevices old run.before → run.before.log.faults ≡ old.faults → IsLeftBy script run → IsLeftBy script (Earlier old run)
+left_by_before script old run are kept (inl (log, backing)) = inl (synced_then (synced_by_reads are.read) log, backing)
+left_by_before script old run are kept (inr (inl (found, recovered))) = inr (inl (found, recovered_before found are recovered))
+left_by_before script old run are kept (inr (inr (found, cut))) = inr (inr (found, cut_before old run.before run.after found script are.read kept cut))
+
+pub left_before : (old : State) (sectors : ℕ) (run : Run) → AreDevices old run.before → run.before.log.faults ≡ old.faults → IsLeftFrom sectors run → IsLeftFrom sectors (Earlier old run)
+left_before old sectors run are kept (inl (log, backing)) = inl (reads_only are.read log, backing)
+left_before old sectors run are kept (inr (script, spelled, left)) = inr (script, spelled, left_by_before script old run are kept left)
+
+pub workload_left_before : (numbers : WorkloadNumbers) (old : State) (sectors : ℕ) (run : Run) → AreDevices old run.before → run.before.log.faults ≡ old.faults
+    → IsLeftByWorkload numbers sectors run → IsLeftByWorkload numbers sectors (Earlier old run)
+workload_left_before numbers old sectors run are kept (inl (log, backing)) = inl (reads_only are.read log, backing)
+workload_left_before numbers old sectors run are kept (inr left) = inr (left_by_before (script_of numbers (region_of sectors)) old run are kept left)
+
+-- both devices were judged and are good, and the run went on
+module _ (Ends Wants : (sectors : ℕ) → Run → Type 0) (old : State) (run : Run) (found : Super) (judged : Lent) where
+  opened : IsGood judged old run.before.log run.before.backing.sectors found → (Ends found.geometry.backing_sectors run → Ends found.geometry.backing_sectors (Earlier old run))
+      → (run.status ≡ 1) ⊎ Ends found.geometry.backing_sectors run → (run.status ≡ 1) ⊎ IsUnserved (Earlier old run) ⊎ IsOpened Ends (Earlier old run)
+  opened good before (inl one) = inl one
+  opened good before (inr ends) = inr (inr (record { found = found; super = good.super; ids = good.ids; room = good.room; ends = before ends }))
+
+  pub good_account : IsGood judged old run.before.log run.before.backing.sectors found → (Ends found.geometry.backing_sectors run → Ends found.geometry.backing_sectors (Earlier old run))
+      → (Wants found.geometry.backing_sectors run → Wants found.geometry.backing_sectors (Earlier old run))
+      → Leaves (Ends found.geometry.backing_sectors) (Wants found.geometry.backing_sectors) run → ServingAccount Ends Wants (Earlier old run)
+  good_account good ends_before wants_before leaves = record {
+    log_faults = rw good.faults at leaves.log_faults;
+    backing_faults = leaves.backing_faults;
+    wanting = λ one. inr (found, good.super, wants_before (leaves.wanting one));
+    ends = opened good ends_before leaves.ends;
+  }

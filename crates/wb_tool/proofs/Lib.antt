@@ -14,3 +14,4 @@ pub mod Formatted
 pub mod SlotLines
 pub mod SlotEnds
 pub mod Recoverings
+pub mod Counts

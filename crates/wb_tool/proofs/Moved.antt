@@ -1,5 +1,5 @@
 -- What is said of a log holds of it before it was read.
-use Rattle.std.proofs.Common.{◌≡◌, ◌≤◌, ℕ, subst, ◌∙◌, refl, Option, Some, None, IfSome}
+use Rattle.std.proofs.Common.{◌≡◌, ◌≤◌, ℕ, List, subst, ◌∙◌, refl, Option, Some, None, IfSome}
 use Rattle.wb_geometry.specs.Image.{Image}
 use Rattle.wb_geometry.specs.Device.{State, IsDevice, OnlyRead}
 use Rattle.wb_geometry.specs.Layout.{log_sectors}
@@ -15,7 +15,7 @@ use Rattle.wb_engine.specs.Opening.{MayOpen, Goes, HasRecovered, HasStopped}
 use Rattle.wb_engine.proofs.Openings.{goes_opened, recovered_opened, stopped_opened}
 use Rattle.wb_serve.specs.Session.{Devices, Report, IsBase, IsSession, IsCutShort}
 use Rattle.wb_tool.specs.Run.{Run}
-use Rattle.wb_tool.specs.Served.{Served}
+use Rattle.wb_tool.specs.Served.{ServedTelling}
 
 -- what holds of each content
 if_told : {P : Image → Type 0} (content : Option Image) → ((x : Image) → content ≡ Some x → P x) → IfSome content P
@@ -77,7 +77,7 @@ pub stopped_before : {old : State} {mid after : Devices} (why : ReplayStop) → 
 stopped_before why are stopped = stopped_opened stopped.found why (goes_before stopped.found are stopped.went) are.read stopped.refused stopped.so_far
 
 -- what recovery makes of the contents is the same
-base_after : (old : State) (mid : Devices) (found : Super) (base : Image) → OnlyRead old mid.log → IsBase found (earlier old mid) base → IsBase found mid base
+pub base_after : (old : State) (mid : Devices) (found : Super) (base : Image) → OnlyRead old mid.log → IsBase found (earlier old mid) base → IsBase found mid base
 base_after old mid found base read (x, y, of) = (x, y, record { log_told = read.content ∙ of.log_told; told = of.told; makes = of.makes })
 
 bases_after : (old : State) (mid : Devices) (found : Super) (content : Option Image) → OnlyRead old mid.log → IfSome content (IsBase found (earlier old mid)) → IfSome content (IsBase found mid)
@@ -125,9 +125,9 @@ cut_before old mid after found script read kept short = record {
   session = session_before old mid after found (record script { requests = short.answered }) short.report read kept short.session;
 }
 
-pub served_before : (script : ScriptContent) (old : State) (run : Run) → OnlyRead old run.before.log → run.before.log.faults ≡ old.faults → Served script run
-    → Served script (record run { before = earlier old run.before })
-served_before script old run read kept served = record {
+pub served_before : (front text : List ℕ) (script : ScriptContent) (old : State) (run : Run) → OnlyRead old run.before.log → run.before.log.faults ≡ old.faults
+    → ServedTelling front text script run → ServedTelling front text script (record run { before = earlier old run.before })
+served_before front text script old run read kept served = record {
   found = served.found;
   ids = served.ids;
   log_failed = served.log_failed;

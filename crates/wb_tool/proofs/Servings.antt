@@ -44,7 +44,7 @@ front_longer a b xs ys (n, few, front) =
 -- the text was told, and then the fault line
 pub told_fault : (a b c : Known) (f g h : ℕ) (text : List ℕ) (status places : ℕ) (ids log_failed backing_failed : Bool)
     → Appends a b text → g ≡ f → TellsFault (lent b c g h) status places ids log_failed backing_failed
-    → EndsSession (lent a c f h) status text places ids log_failed backing_failed
+    → EndsSession (lent a c f h) status text text places ids log_failed backing_failed
 told_fault a b c f g h text status places ids log_failed backing_failed first same (inl (failed, six, took)) =
     inl (failed, six, took_more a b c f g h text (failed_line Log) first same took)
 told_fault a b c f g h text status places ids log_failed backing_failed first same (inr (inl (fine, failed, seven, took))) =
@@ -57,7 +57,7 @@ told_fault a b c f g h text status places ids log_failed backing_failed first sa
 -- the sink took a front of the text
 pub told_cut : (a b : Known) (f h : ℕ) (text : List ℕ) (status places : ℕ) (ids log_failed backing_failed : Bool)
     → AppendsFront a b text → Rose f h → IsCutAt status ids log_failed backing_failed
-    → EndsSession (lent a b f h) status text places ids log_failed backing_failed
+    → EndsSession (lent a b f h) status text text places ids log_failed backing_failed
 told_cut a b f h text status places ids log_failed backing_failed front rose (inl (failed, six)) =
     inl (failed, six, inr (front_longer a b text (failed_line Log) front, rose))
 told_cut a b f h text status places ids log_failed backing_failed front rose (inr (inl (fine, failed, seven))) =

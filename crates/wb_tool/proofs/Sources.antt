@@ -6,11 +6,12 @@ use Rattle.wb_script.specs.declared.transcript.Line.{Line}
 use Rattle.std.specs.Io.KnownBytes.{IsAtEnd}
 use Rattle.wb_geometry.proofs.Moments.{only_read, uncalled}
 use Rattle.wb_script.specs.declared.refusal.Cause.{Cause}
-use Rattle.wb_tool.specs.Run.{Lent, Run, run_of, no_source, HasFailed, HasNotFailed, Spells, Refuses, Took}
+use Rattle.wb_tool.specs.Run.{Lent, Run, run_of, HasFailed, HasNotFailed, Spells, Refuses, Took}
 use Rattle.wb_tool.specs.Reads.{IsRead}
 use Rattle.wb_tool.specs.Texts.{source_line, refused_line}
-use Rattle.wb_tool.specs.Serve.{IsUnbegun, IsLeftBy, IsLeftFrom}
-use Rattle.wb_tool.specs.Stages.{Leaves, EndsReading, EndsServing}
+use Rattle.wb_tool.specs.Served.{Served}
+use Rattle.wb_tool.specs.Ends.{Leaves, IsUnbegun, IsLeftBy, EndsServing}
+use Rattle.wb_tool.specs.Serve.{EndsReading, IsLeftFrom}
 use Rattle.wb_tool.proofs.Accounts.{faults_kept}
 
 -- nothing was done with the devices, and the status is of no fault
@@ -52,33 +53,9 @@ refusal_leaves sectors source sink log backing kept line cause why told bytes re
       }),
     ))
 
--- the ends of a run that is lent a source beside
-serving_beside : (script : ScriptContent) (source sink : Lent) (log_before log_after backing_before backing_after : State) (status : ℕ) (transcripts : List (List Line)) (places : ℕ)
-    → EndsServing script (run_of no_source sink log_before log_after backing_before backing_after status transcripts places)
-    → EndsServing script (run_of source sink log_before log_after backing_before backing_after status transcripts places)
-serving_beside script source sink log_before log_after backing_before backing_after status transcripts places (inl (unbegun, unopened)) =
-    let none = unbegun.no_session in
-    inl (record { no_session = record { transcripts = none.transcripts; places = none.places }; backing = unbegun.backing; log = unbegun.log }, unopened)
-serving_beside script source sink log_before log_after backing_before backing_after status transcripts places (inr (inl (none, ends))) =
-    inr (inl (
-      record { transcripts = none.transcripts; places = none.places },
-      elim ends [
-        | inl stray ↦ inl (record { slot = stray.slot; id = stray.id; stopped = stray.stopped; ended = stray.ended; told = stray.told })
-        | inr rest ↦ elim rest [
-          | inl fault ↦ inr (inl (record { stopped = fault.stopped; ended = fault.ended; told = fault.told }))
-          | inr rest ↦ elim rest [
-            | inl fault ↦ inr (inr (inl (record { stopped = fault.stopped; ended = fault.ended; told = fault.told })))
-            | inr change ↦ inr (inr (inr (record { found = change.found; recovered = change.recovered; fewer = change.fewer; ended = change.ended; told = change.told })))
-          ]
-        ]
-      ],
-    ))
-serving_beside script source sink log_before log_after backing_before backing_after status transcripts places (inr (inr served)) =
-    inr (inr (record { found = served.found; ids = served.ids; log_failed = served.log_failed; backing_failed = served.backing_failed; session = served.session; ends = served.ends }))
-
 scripted_ends : (sectors : ℕ) (script : ScriptContent) (source sink : Lent) (log_before log_after backing_before backing_after : State) (status : ℕ) (transcripts : List (List Line)) (places : ℕ)
     → HasNotFailed source → Spells sectors source script → IsAtEnd source.after
-    → (status ≡ 1) ⊎ EndsServing script (run_of no_source sink log_before log_after backing_before backing_after status transcripts places)
+    → (status ≡ 1) ⊎ EndsServing (Served script) script.sectors (run_of source sink log_before log_after backing_before backing_after status transcripts places)
     → (status ≡ 1) ⊎ EndsReading sectors (run_of source sink log_before log_after backing_before backing_after status transcripts places)
 scripted_ends sectors script source sink log_before log_after backing_before backing_after status transcripts places kept spelled at_end (inl one) = inl one
 scripted_ends sectors script source sink log_before log_after backing_before backing_after status transcripts places kept spelled at_end (inr ends) = inr (inr (record {
@@ -86,13 +63,13 @@ scripted_ends sectors script source sink log_before log_after backing_before bac
   script = script;
   spelled = spelled;
   at_end = at_end;
-  ends = serving_beside script source sink log_before log_after backing_before backing_after status transcripts places ends;
+  ends = ends;
 }))
 
 -- the source held a script
 pub script_leaves : (sectors : ℕ) (script : ScriptContent) (source sink : Lent) (log_before log_after backing_before backing_after : State) (status : ℕ) (transcripts : List (List Line)) (places : ℕ)
     → HasNotFailed source → Spells sectors source script → IsAtEnd source.after
-    → Leaves (EndsServing script) (IsLeftBy script) (run_of no_source sink log_before log_after backing_before backing_after status transcripts places)
+    → Leaves (EndsServing (Served script) script.sectors) (IsLeftBy script) (run_of source sink log_before log_after backing_before backing_after status transcripts places)
     → Leaves (EndsReading sectors) (IsLeftFrom sectors) (run_of source sink log_before log_after backing_before backing_after status transcripts places)
 script_leaves sectors script source sink log_before log_after backing_before backing_after status transcripts places kept spelled at_end leaves = record {
   log_faults = leaves.log_faults;

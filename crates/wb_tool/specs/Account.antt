@@ -11,10 +11,12 @@ use Rattle.wb_script.specs.Content.{ScriptContent}
 use Rattle.wb_script.specs.Grammar.{IsScript}
 use Rattle.wb_tool.specs.declared.command.Command.{Command}
 use Rattle.wb_tool.specs.declared.command.Numbers.{Numbers}
-use Rattle.wb_tool.specs.Commands.{IsForm, IsServe, IsRecover, IsInspect, IsInspectSlot, IsFormat}
+use Rattle.wb_tool.specs.declared.command.WorkloadNumbers.{WorkloadNumbers}
+use Rattle.wb_tool.specs.Commands.{IsForm, IsServe, IsRecover, IsInspect, IsInspectSlot, IsFormat, IsWorkload}
 use Rattle.wb_tool.specs.Run.{Run, HasFailed, IsUntouched, LogHasFailed, BackingHasFailed, NoSession, BackingIsUncalled, Took, script_bytes}
 use Rattle.wb_tool.specs.Texts.{usage_line}
 use Rattle.wb_tool.specs.Serve.{ServeAccount}
+use Rattle.wb_tool.specs.Workload.{WorkloadAccount}
 use Rattle.wb_tool.specs.Format.{FormatAccount, Asks}
 use Rattle.wb_tool.specs.Inspect.{InspectAccount}
 use Rattle.wb_tool.specs.Slot.{SlotAccount}
@@ -29,7 +31,7 @@ pub record UsageAccount (run : Run) : Type 0 where
   pub unread : IsUntouched run.source
   pub log : IsUncalled run.before.log run.after.log
 
--- what a run answers for: its words are of one of five forms, or of none
+-- what a run answers for: its words are of one of six forms, or of none
 pub record IsAccounted (words : List (List ℕ)) (run : Run) : Type 0 where
   pub usage : ((command : Command) → IsForm command words → ⊥) → UsageAccount run
   pub serve : IsServe words → ServeAccount run
@@ -37,6 +39,7 @@ pub record IsAccounted (words : List (List ℕ)) (run : Run) : Type 0 where
   pub format : (numbers : Numbers) → IsFormat numbers words → FormatAccount numbers run
   pub inspect : IsInspect words → InspectAccount run
   pub slot : (slot : ℕ) → IsInspectSlot slot words → SlotAccount slot run
+  pub workload : (numbers : WorkloadNumbers) → IsWorkload numbers words → WorkloadAccount numbers run
 
 -- the log device tells that it is formatted for this geometry, with a record that is taken
 pub record TellsFormatted (run : Run) (g : Geometry) : Type 0 where
@@ -81,3 +84,5 @@ pub record IsComplete (words : List (List ℕ)) (run : Run) : Type 0 where
       → (g : Geometry) → Asks numbers run.before.backing.sectors g → log_sectors g ≤ run.before.log.sectors → Succeeds run
   pub inspect : IsInspect words → NoLogFault run → (g : Geometry) → TellsFormatted run g → Succeeds run
   pub slot : (slot : ℕ) → IsInspectSlot slot words → NoLogFault run → (g : Geometry) → TellsFormatted run g → slot < g.slots → Succeeds run
+  pub workload : (numbers : WorkloadNumbers) → IsWorkload numbers words → NoLogFault run → (BackingHasFailed run → ⊥) → (g : Geometry) → (formatted : TellsFormatted run g)
+      → IsTidy g formatted.image → LeavesIds g formatted.image → g.backing_sectors ≤ run.before.backing.sectors → 32 ≤ g.backing_sectors → Succeeds run

@@ -4,8 +4,10 @@ pub mod Texts
 pub mod Reads
 pub mod Served
 pub mod Opening
+pub mod Ends
 pub mod Serve
 pub mod Stages
+pub mod Workload
 pub mod Format
 pub mod Inspect
 pub mod SlotTexts

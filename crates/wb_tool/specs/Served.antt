@@ -13,17 +13,18 @@ use Rattle.wb_tool.specs.Texts.{failed_line, spent_line}
 abbrev pub IsFine : (log_failed backing_failed : Bool) → Type 0
 IsFine log_failed backing_failed = (log_failed ≡ false) × (backing_failed ≡ false)
 
--- The output text is told, and behind it a line where the log device failed, or else the backing device did, or else a write
+-- The text is told. Or, behind the front, a line where the log device failed, or else the backing device did, or else a write
 -- found no id.
-abbrev pub EndsSession : (sink : Lent) (status : ℕ) (text : List ℕ) (places : ℕ) (ids log_failed backing_failed : Bool) → Type 0
-EndsSession sink status text places ids log_failed backing_failed =
-    ((log_failed ≡ true) × (status ≡ 6) × Took sink (text ++ failed_line Log))
-    ⊎ ((log_failed ≡ false) × (backing_failed ≡ true) × (status ≡ 7) × Took sink (text ++ failed_line Backing))
-    ⊎ (IsFine log_failed backing_failed × (ids ≡ true) × (status ≡ 10) × Took sink (text ++ spent_line places))
+abbrev pub EndsSession : (sink : Lent) (status : ℕ) (front text : List ℕ) (places : ℕ) (ids log_failed backing_failed : Bool) → Type 0
+EndsSession sink status front text places ids log_failed backing_failed =
+    ((log_failed ≡ true) × (status ≡ 6) × Took sink (front ++ failed_line Log))
+    ⊎ ((log_failed ≡ false) × (backing_failed ≡ true) × (status ≡ 7) × Took sink (front ++ failed_line Backing))
+    ⊎ (IsFine log_failed backing_failed × (ids ≡ true) × (status ≡ 10) × Took sink (front ++ spent_line places))
     ⊎ (IsFine log_failed backing_failed × (ids ≡ false) × EndsTelling sink status text)
 
--- A session of this script, which began. At the statuses 0, 5 and 10 neither device failed, so the whole history is put.
-pub record Served (script : ScriptContent) (run : Run) : Type 0 where
+-- A session of this script, which began, and ended by telling this text, or a fault line behind this front. At the statuses
+-- 0, 5 and 10 neither device failed, so the whole history is put.
+pub record ServedTelling (front text : List ℕ) (script : ScriptContent) (run : Run) : Type 0 where
   pub found : Super
   pub ids : Bool
   pub log_failed : Bool
@@ -36,4 +37,10 @@ pub record Served (script : ScriptContent) (run : Run) : Type 0 where
     log_failed = log_failed;
     backing_failed = backing_failed;
   })
-  pub ends : EndsSession run.sink run.status (session_text script run.transcripts run.places) run.places ids log_failed backing_failed
+  pub ends : EndsSession run.sink run.status front text run.places ids log_failed backing_failed
+
+-- The same of a session that tells its answers, which stand before a fault line too.
+abbrev pub Served : ScriptContent → Run → Type 0
+Served script run =
+    let text = session_text script run.transcripts run.places in
+    ServedTelling text text script run

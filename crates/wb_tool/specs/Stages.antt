@@ -1,33 +1,32 @@
--- What the later stages of `serve` leave, and how each of their steps ends.
-use Rattle.std.specs.Prelude.{ℕ, ◌≡◌, ◌≢◌, ◌⊎◌, Bool, true, false}
-use Rattle.wb_geometry.specs.Device.{CountsFaultsWhere}
+-- How steps of the commands end that serve a session.
+use Rattle.std.specs.Prelude.{ℕ, ◌≡◌, ◌≢◌, ◌⊎◌, ◌≤◌, Bool, true, false, List, [], Some}
+use Rattle.wb_geometry.specs.Image.{Image, bytes_at}
+use Rattle.wb_geometry.specs.Device.{State, Rose, OnlyRead, CountsFaultsWhere}
+use Rattle.wb_sum.specs.Crc32c.{sum_of}
 use Rattle.wb_geometry.specs.declared.which.Which.TheVariants.{Log, Backing}
 use Rattle.wb_super.specs.declared.reading.SuperRefused.TheVariants.{Fault}
-use Rattle.wb_script.specs.Content.{ScriptContent}
+use Rattle.wb_super.specs.Found.{IsSuper}
+use Rattle.wb_super.specs.declared.reading.Super.{Super}
 use Rattle.wb_engine.specs.declared.opening.OpenCause.TheVariants as opening
 use Rattle.wb_serve.specs.declared.serving.ServeStop.{ServeStop}
 use Rattle.wb_serve.specs.declared.serving.ServeStop.TheVariants as stop
-use Rattle.wb_tool.specs.Run.{Lent, Run, IsUntouched, Took}
+use Rattle.wb_tool.specs.Run.{Lent, IsUntouched, Took}
 use Rattle.wb_tool.specs.Texts.{super_line, super_status, small_line, spent_record_line, spent_line, changed_line, stray_line, failed_line}
-use Rattle.wb_tool.specs.Served.{Served, IsFine}
-use Rattle.wb_tool.specs.Serve.{IsUnbegun, IsUnopened, IsStopped, EndsBySource, EndsByScript, IsScripted}
+use Rattle.wb_tool.specs.Served.{IsFine, EndsSession}
+use Rattle.wb_tool.specs.Ends.{HasIds, EndsUnopened}
 
--- Where memory was wanting only the devices are spoken of; else the faults of both are told by the status, and the run ended
--- so.
-pub record Leaves (Ends Wants : Run → Type 0) (run : Run) : Type 0 where
-  pub log_faults : run.status ≢ 1 → CountsFaultsWhere (run.status ≡ 6) run.before.log.faults run.after.log.faults
-  pub backing_faults : run.status ≢ 1 → run.status ≢ 6 → CountsFaultsWhere (run.status ≡ 7) run.before.backing.faults run.after.backing.faults
-  pub wanting : run.status ≡ 1 → Wants run
-  pub ends : (run.status ≡ 1) ⊎ Ends run
+-- both devices are good for a session, and nothing was told
+pub record IsGood (sink : Lent) (before after : State) (sectors : ℕ) (found : Super) : Type 0 where
+  pub super : IsSuper before found
+  pub ids : HasIds found
+  pub room : found.geometry.backing_sectors ≤ sectors
+  pub faults : after.faults ≡ before.faults
+  pub untold : IsUntouched sink
 
--- the ends from the session on
-abbrev pub EndsServing : ScriptContent → Run → Type 0
-EndsServing script run = (IsUnbegun run × IsUnopened run) ⊎ IsStopped script.sectors run
-    ⊎ Served script run
-
--- the ends from the source on
-abbrev pub EndsReading : (sectors : ℕ) → Run → Type 0
-EndsReading sectors run = (IsUnbegun run × (EndsBySource run ⊎ EndsByScript sectors run)) ⊎ IsScripted sectors run
+-- one of them isn't, and that was told
+pub record IsBad (sink : Lent) (before after : State) (sectors status : ℕ) : Type 0 where
+  pub faults : CountsFaultsWhere (status ≡ 6) before.faults after.faults
+  pub ends : (status ≡ 1) ⊎ EndsUnopened sink before sectors status
 
 -- how telling why no session was served ends
 abbrev pub EndsUnserved : ServeStop → (sink : Lent) → (status : ℕ) → Type 0
@@ -56,3 +55,19 @@ IsCutAt status ids log_failed backing_failed =
     ⊎ ((log_failed ≡ false) × (backing_failed ≡ true) × (status ≡ 7))
     ⊎ (IsFine log_failed backing_failed × (ids ≡ true) × (status ≡ 10))
     ⊎ (IsFine log_failed backing_failed × (ids ≡ false) × (status ≡ 5))
+
+-- The backing device holds the image of a session that went well, and the reading of it failed.
+pub record IsUnread (sink : Lent) (before after : State) (status : ℕ) (log_failed backing_failed : Bool) : Type 0 where
+  pub fine : IsFine log_failed backing_failed
+  pub rose : Rose before.faults after.faults
+  pub later : before.faults ≤ after.faults
+  pub ended : status ≡ 7
+  pub told : Took sink (failed_line Backing)
+
+-- It was read where the session went well, and the line with the checksum of its first sectors was told; or the session ended
+-- by a fault line.
+pub record IsSummed (line : ℕ → List ℕ) (region : ℕ) (sink : Lent) (before after : State) (status places : ℕ) (ids log_failed backing_failed : Bool) : Type 0 where
+  pub faults : after.faults ≡ before.faults
+  pub sum : ℕ
+  pub ends : (status ≡ 1) ⊎ EndsSession sink status [] (line sum) places ids log_failed backing_failed
+  pub device : (status ≡ 0) ⊎ (status ≡ 5) → (image : Image) → before.content ≡ Some image → sum ≡ sum_of (bytes_at image 0 region)

@@ -1,4 +1,4 @@
--- The fault lines, and the lines that `format` and `inspect` answer.
+-- The fault lines, and the lines that `format`, `inspect` and `workload` answer.
 use Rattle.std.specs.Prelude.{ℕ, List, [], ◌++◌, codes}
 use Rattle.std.specs.Fmt.{decimal}
 use Rattle.wb_geometry.specs.declared.geometry.Geometry.{Geometry}
@@ -88,3 +88,11 @@ formatted_line g = codes "formatted " ++ geometry_text g ++ codes " record 0" ++
 abbrev pub inspected_line : Super → List ℕ
 inspected_line found =
     codes "version " ++ decimal found.version ++ codes " " ++ geometry_text found.geometry ++ codes " record " ++ decimal found.recorded ++ newline
+
+-- the line of a workload: its seed, how many clients and requests it has, how many of these are of each kind, and the checksum
+-- of what it leaves
+abbrev pub workload_line : (seed clients requests writes reads flushes sum : ℕ) → List ℕ
+workload_line seed clients requests writes reads flushes sum =
+    codes "workload seed " ++ decimal seed ++ codes " clients " ++ decimal clients ++ codes " requests " ++ decimal requests
+    ++ codes " writes " ++ decimal writes ++ codes " reads " ++ decimal reads ++ codes " flushes " ++ decimal flushes
+    ++ codes " sum " ++ sum_text sum ++ newline

@@ -13,6 +13,7 @@ mod serving;
 mod slots;
 mod status;
 mod texts;
+mod workload;
 
 pub use run::{Outcome, run_single};
 

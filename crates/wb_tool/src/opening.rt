@@ -1,8 +1,10 @@
-//! How a command ends where the log or the backing device is refused.
-ghost use Rattle.std.specs.Prelude.{◌≡◌, ◌⊎◌};
+//! Whether the log and the backing device are good for a session, and how a command ends where one of them is refused.
+ghost use Rattle.std.specs.Prelude.{◌≡◌, ◌⊎◌, ◌≤◌, ◌-◌, ◌*◌, ◌^◌, IfOk, IfErr};
+ghost use Rattle.wb_geometry.specs.Device.{OnlyRead};
 ghost use Rattle.wb_geometry.specs.declared.which.Which.TheVariants.{Backing};
 ghost use Rattle.wb_tool.specs.Run.{lent, Took};
 ghost use Rattle.wb_tool.specs.Texts.{super_line, super_status, small_line, spent_record_line, changed_line, stray_line};
+ghost use Rattle.wb_tool.specs.Stages.{IsGood, IsBad};
 ghost use Rattle.wb_super.specs.declared.reading.SuperRefused.TheVariants.{Fault};
 
 use crate::status;
@@ -10,9 +12,49 @@ use crate::texts::{
     LOG_FAILED, changed_text, small_text, spent_record_text, stray_text, super_text, tell,
 };
 use std::alloc::Global;
-use wb_device::Sink;
+use wb_device::{Device, Sink};
 use wb_geometry::Which;
-use wb_super::SuperRefused;
+use wb_super::{Super, SuperRefused, read_super};
+
+/// The number of ids.
+const IDS: u64 = 1 << 48;
+
+/// The first three stages of a session: the superblock, the ids that its record leaves, and the size of the backing device.
+/// Where one of them refuses the devices that is told, and the status is answered.
+pub fn judge_devices<K: Sink, L: Device, B: Device>(
+    alloc: Global,
+    sink: &mut K,
+    log: &mut L,
+    backing: &B,
+) -> Result<Super, u8>
+    ensures read { OnlyRead (L.state log.old) (L.state log.new) }
+    ensures good { IfOk result (IsGood (lent (K.taken sink.old) (K.taken sink.new) (K.faults sink.old) (K.faults sink.new))
+        (L.state log.old) (L.state log.new) (B.state backing.now).sectors) }
+    ensures bad { IfErr result (IsBad (lent (K.taken sink.old) (K.taken sink.new) (K.faults sink.old) (K.faults sink.new))
+        (L.state log.old) (L.state log.new) (B.state backing.now).sectors) }
+{
+    let found = match read_super(log) {
+        Ok(found) => found,
+        Err(refused) => return Err(refuse_log(alloc, sink, refused)),
+    };
+    let geometry = found.geometry;
+    if found.recorded > most_recorded(geometry.slots) {
+        return Err(refuse_ids(alloc, sink, found.recorded));
+    }
+    let sectors = backing.sectors();
+    if sectors < geometry.backing_sectors {
+        return Err(refuse_backing(alloc, sink, sectors, geometry.backing_sectors));
+    }
+    Ok(found)
+}
+
+/// The greatest record that leaves ids for a session, of a log with so many slots.
+fn most_recorded(slots: u32) -> u64
+    requires { slots ≤ 2 ^ 14 }
+    ensures { result ≡ 2 ^ 48 - 2 * slots }
+{
+    IDS - 2 * u64::from(slots)
+}
 
 /// Tells why the superblock is refused, or that it can't be read. Answers the status.
 pub fn refuse_log<K: Sink>(alloc: Global, sink: &mut K, refused: SuperRefused) -> u8

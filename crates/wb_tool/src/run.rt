@@ -12,6 +12,7 @@ use crate::serving::serve;
 use crate::slots::inspect_slot;
 use crate::status;
 use crate::texts::{USAGE, tell};
+use crate::workload::serve_workload;
 use std::alloc::Global;
 use wb_device::{Device, Sink, Source};
 use wb_script::Transcript;
@@ -53,10 +54,11 @@ impl<L: Device, B: Device> Outcome<L, B> {
 /// devices: the answers go to the sink, and at the end the backing device holds what the script wrote. `recover LOG BACKING`
 /// puts what the log has to the backing device, and tells what it did. `format LOG BACKING ORDER SLOTS RAM` makes an empty
 /// log for the whole blocks of the backing device, and `inspect LOG BACKING` tells the superblock and the record of one; with
-/// a number behind it, what is in that slot. Words of another form are refused.
-/// `serve` recovers both devices before its session; where none began, recovery may have been made, wholly or in part, and
-/// made again it comes to the same. At status 1, want of memory, nothing is said of the output; what `serve` then leaves of
-/// the devices, or a crash does, is what recovery or a session of the first of each client's requests leaves.
+/// a number behind it, what is in that slot. `workload LOG BACKING SEED COUNT` serves as `serve` does, but the script of a
+/// seed, and tells one line with the checksum of the sectors that it is for. Words of another form are refused.
+/// `serve` and `workload` recover both devices before the session; where none began, recovery may have been made, wholly or
+/// in part, and made again it comes to the same. At status 1, want of memory, nothing is said of the output; what they then
+/// leave of the devices, or a crash does, is what recovery or a session of the first of each client's requests leaves.
 pub fn run_single<S: Source, K: Sink, L: Device, B: Device>(
     alloc: Global,
     words: &[String],
@@ -110,6 +112,7 @@ fn obey<S: Source, K: Sink, L: Device, B: Device>(
             let status = recover_log(alloc, sink, &mut log, &mut backing);
             Outcome::without_session(alloc, status, log, backing)
         }
+        Some(Command::Workload(numbers)) => { serve_workload(alloc, sink, log, backing, numbers) }
         Some(Command::InspectSlot(slot)) => {
             let status = inspect_slot(alloc, sink, &mut log, slot);
             Outcome::without_session(alloc, status, log, backing)

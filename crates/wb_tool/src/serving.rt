@@ -1,13 +1,16 @@
 //! The command `serve`.
-ghost use Rattle.std.specs.Prelude.{◌≡◌, ◌≢◌, ◌⊎◌, ◌≤◌, ◌-◌, ◌*◌, ◌^◌, false};
+ghost use Rattle.std.specs.Prelude.{◌≡◌, ◌⊎◌};
 ghost use Rattle.wb_script.specs.Output.{session_text};
 ghost use Rattle.wb_script.specs.Valid.{IsValid};
-ghost use Rattle.wb_tool.specs.Run.{run_of, lent, no_source};
-ghost use Rattle.wb_tool.specs.Served.{EndsSession};
-ghost use Rattle.wb_tool.specs.Serve.{ServeAccount, IsLeftBy, IsLeftFrom};
-ghost use Rattle.wb_tool.specs.Stages.{Leaves, EndsReading, EndsServing, EndsUnserved, TellsFault, IsCutAt};
+ghost use Rattle.wb_tool.specs.Run.{Lent, run_of, lent};
+ghost use Rattle.wb_tool.specs.Served.{Served, EndsSession};
+ghost use Rattle.wb_tool.specs.Ends.{Leaves, EndsServing, IsLeftBy};
+ghost use Rattle.wb_tool.specs.Serve.{ServeAccount, EndsReading, IsLeftFrom};
+ghost use Rattle.wb_tool.specs.Stages.{EndsUnserved, TellsFault, IsCutAt};
 
-use crate::opening::{refuse_backing, refuse_change, refuse_ids, refuse_log, refuse_stray};
+use crate::opening::{
+    judge_devices, refuse_backing, refuse_change, refuse_ids, refuse_log, refuse_stray,
+};
 use crate::reading::{ReadStop, read_all};
 use crate::run::Outcome;
 use crate::status;
@@ -17,13 +20,9 @@ use wb_device::{Device, Sink, Source};
 use wb_engine::OpenCause;
 use wb_geometry::Geometry;
 use wb_script::{ParseStop, PrintStop, Script, parse, print};
-use wb_serve::{ServeStop, Served, Session, serve_plain};
-use wb_super::read_super;
+use wb_serve::{ServeStop, Session, serve_plain};
 
-/// The number of ids.
-const IDS: u64 = 1 << 48;
-
-/// The first three stages: the superblock, the ids that its record leaves, and the size of the backing device.
+/// The first three stages judge both devices.
 pub fn serve<S: Source, K: Sink, L: Device, B: Device>(
     alloc: Global,
     source: &mut S,
@@ -38,32 +37,10 @@ pub fn serve<S: Source, K: Sink, L: Device, B: Device>(
         result.status result.transcripts.items result.places) }
 {
     let mut log = log;
-    let found = match read_super(&mut log) {
-        Ok(found) => found,
-        Err(refused) => {
-            let status = refuse_log(alloc, sink, refused);
-            return Outcome::without_session(alloc, status, log, backing);
-        }
-    };
-    let geometry = found.geometry;
-    if found.recorded > most_recorded(geometry.slots) {
-        let status = refuse_ids(alloc, sink, found.recorded);
-        return Outcome::without_session(alloc, status, log, backing);
+    match judge_devices(alloc, sink, &mut log, &backing) {
+        Ok(found) => serve_source(alloc, source, sink, log, backing, &found.geometry),
+        Err(status) => Outcome::without_session(alloc, status, log, backing),
     }
-    let sectors = backing.sectors();
-    if sectors < geometry.backing_sectors {
-        let status = refuse_backing(alloc, sink, sectors, geometry.backing_sectors);
-        return Outcome::without_session(alloc, status, log, backing);
-    }
-    serve_source(alloc, source, sink, log, backing, &geometry)
-}
-
-/// The greatest record that leaves ids for a session, of a log with so many slots.
-fn most_recorded(slots: u32) -> u64
-    requires { slots ≤ 2 ^ 14 }
-    ensures { result ≡ 2 ^ 48 - 2 * slots }
-{
-    IDS - 2 * u64::from(slots)
 }
 
 /// The next two: the source, and the script that it holds.
@@ -113,12 +90,12 @@ fn serve_script<K: Sink, L: Device, B: Device>(
     script: &Script,
 ) -> Outcome<L, B>
     requires valid { IsValid script.now }
-    ensures { Leaves (EndsServing script.now) (IsLeftBy script.now) (run_of no_source
+    ensures { (source : Lent) → Leaves (EndsServing (Served script.now) script.now.sectors) (IsLeftBy script.now) (run_of source
         (lent (K.taken sink.old) (K.taken sink.new) (K.faults sink.old) (K.faults sink.new))
         (L.state log) (L.state result.log) (B.state backing) (B.state result.backing)
         result.status result.transcripts.items result.places) }
 {
-    let Served {
+    let wb_serve::Served {
         log,
         backing,
         answer,
@@ -142,7 +119,7 @@ fn serve_script<K: Sink, L: Device, B: Device>(
 }
 
 /// Tells why no session was served. Answers the status.
-fn refuse_session<K: Sink>(alloc: Global, sink: &mut K, stop: ServeStop) -> u8
+pub fn refuse_session<K: Sink>(alloc: Global, sink: &mut K, stop: ServeStop) -> u8
     ensures { EndsUnserved stop
         (lent (K.taken sink.old) (K.taken sink.new) (K.faults sink.old) (K.faults sink.new)) result }
 {
@@ -171,6 +148,7 @@ fn report<K: Sink>(alloc: Global, sink: &mut K, script: &Script, session: &Sessi
     ensures { (result ≡ 1) ⊎ EndsSession
         (lent (K.taken sink.old) (K.taken sink.new) (K.faults sink.old) (K.faults sink.new)) result
         (session_text script.now session.now.transcripts.items session.now.places)
+        (session_text script.now session.now.transcripts.items session.now.places)
         session.now.places session.now.ids session.now.log_failed session.now.backing_failed }
 {
     let transcripts = session.transcripts.as_slice();
@@ -181,8 +159,8 @@ fn report<K: Sink>(alloc: Global, sink: &mut K, script: &Script, session: &Sessi
     }
 }
 
-/// Tells, behind the answers, why the session ended badly, if it did. Answers the status.
-fn tell_fault<K: Sink>(alloc: Global, sink: &mut K, session: &Session) -> u8
+/// Tells why the session ended badly, if it did. Answers the status.
+pub fn tell_fault<K: Sink>(alloc: Global, sink: &mut K, session: &Session) -> u8
     ensures { (result ≡ 1) ⊎ TellsFault
         (lent (K.taken sink.old) (K.taken sink.new) (K.faults sink.old) (K.faults sink.new)) result
         session.now.places session.now.ids session.now.log_failed session.now.backing_failed }

@@ -8,6 +8,7 @@ mod faults;
 mod flushes;
 mod seeded;
 mod streams;
+mod workload;
 mod wrapping;
 
 use crate::{Outcome, run_single};
@@ -31,10 +32,14 @@ fn words_of(alloc: Global, line: &str) -> Result<Vec<String>, AllocError> {
 
 /// The bytes of an empty log of so many slots of an order, for 64 backing sectors.
 fn empty_log(alloc: Global, order: u32, slots: u32) -> Result<Vec<u8>, Fail> {
-    let geometry = Geometry::new(order, slots, 2, 64)?;
+    log_of(alloc, &Geometry::new(order, slots, 2, 64)?)
+}
+
+/// The bytes of an empty log of this geometry.
+fn log_of(alloc: Global, geometry: &Geometry) -> Result<Vec<u8>, Fail> {
     let sectors = geometry.log_sectors() as usize;
     let mut log = SteadyDevice::of(vec![in alloc; 0x5a; sectors * SECTOR_BYTES]?);
-    format(&mut log, &geometry)?;
+    format(&mut log, geometry)?;
     Ok(log.into_bytes())
 }
 

@@ -9,13 +9,13 @@ use wb_device::{DeviceCall, FaultPlan, ListingDevice, MemoryDevice, PlannedFault
 use wb_script::Transcript;
 
 /// A device that lists its calls and fails as planned.
-type Listed = ListingDevice<MemoryDevice>;
+pub type Listed = ListingDevice<MemoryDevice>;
 
 /// The calls that a device has room to list.
 const ROOM: usize = 256;
 
 /// The first byte of the record.
-const RECORD_BYTE: usize = 2047 * SECTOR_BYTES;
+pub const RECORD_BYTE: usize = 2047 * SECTOR_BYTES;
 
 /// The words of a session.
 pub const SERVE: &str = "serve LOG BACKING";
@@ -110,7 +110,7 @@ fn wrong_in(alloc: Global, case: &Case) -> Result<Option<&'static str>, Fail> {
 }
 
 /// A device of these bytes.
-fn listed(alloc: Global, bytes: Vec<u8>, failing: Failing) -> Result<Listed, AllocError> {
+pub fn listed(alloc: Global, bytes: Vec<u8>, failing: Failing) -> Result<Listed, AllocError> {
     let device = MemoryDevice::of(alloc, bytes, plan_of(alloc, failing)?)?;
     ListingDevice::over(alloc, device, ROOM)
 }
