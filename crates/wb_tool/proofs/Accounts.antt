@@ -263,7 +263,6 @@ accounted (InspectSlot number) words run form account = record {
   slot = λ slot other. subst (λ (n : ℕ). SlotAccount n run) (same_slot words number slot form other) account;
   workload = λ numbers other. absurd (workload_not_slot numbers number words other form);
 }
-
 accounted (Workload numbers) words run form account = record {
   usage = λ none. absurd (none (Workload numbers) form);
   serve = λ other. absurd (workload_not_serve numbers words form other);

@@ -1,16 +1,17 @@
 -- A run of which the log was read before: what it answers for holds from the log's earlier state on.
 use Rattle.std.proofs.Common.{◌≡◌, ◌⊎◌, ℕ, List, [], inl, inr}
-use Rattle.wb_geometry.specs.Device.{State, OnlyRead}
+use Rattle.wb_geometry.specs.Device.{State, OnlyRead, IsDevice}
 use Rattle.wb_super.specs.Found.{IsSuper}
 use Rattle.wb_super.specs.declared.reading.Super.{Super}
 use Rattle.wb_super.proofs.Superblocks.{reads_only}
 use Rattle.wb_replay.specs.declared.replaying.ReplayStop.TheVariants as stop
 use Rattle.wb_replay.proofs.Turns.{synced_by_reads, synced_then}
 use Rattle.wb_script.specs.Content.{ScriptContent}
+use Rattle.wb_serve.specs.Session.{devices}
 use Rattle.wb_tool.specs.Run.{Run, Lent}
 use Rattle.wb_tool.specs.Served.{Served}
 use Rattle.wb_tool.specs.Ends.{Leaves, HasIds, EndsUnopened, IsUnbegun, IsLeftBy, IsStopped, EndsServing, IsUnserved, IsOpened, ServingAccount}
-use Rattle.wb_tool.specs.Serve.{EndsReading, IsLeftFrom}
+use Rattle.wb_tool.specs.Serve.{EndsReading, IsLeftFrom, ServeAccount}
 use Rattle.wb_tool.specs.Stages.{IsGood}
 use Rattle.wb_tool.specs.Workload.{ServedWorkload, EndsWorkload, IsLeftByWorkload, line_of, script_of, region_of}
 use Rattle.wb_tool.specs.declared.command.WorkloadNumbers.{WorkloadNumbers}
@@ -58,7 +59,7 @@ serving_before Ends old parsed run are before (inl (unbegun, unopened)) =
 serving_before Ends old parsed run are before (inr (inl stopped)) = inr (inl (stops_before old parsed run are stopped))
 serving_before Ends old parsed run are before (inr (inr served)) = inr (inr (before served))
 
-pub reading_before : (old : State) (sectors : ℕ) (run : Run) → AreDevices old run.before → run.before.log.faults ≡ old.faults → EndsReading sectors run
+reading_before : (old : State) (sectors : ℕ) (run : Run) → AreDevices old run.before → run.before.log.faults ≡ old.faults → EndsReading sectors run
     → EndsReading sectors (Earlier old run)
 reading_before old sectors run are kept (inl (unbegun, inl source)) =
     inl (unbegun_before old run are.read unbegun, inl (record { failed = source.failed; ended = source.ended; told = source.told }))
@@ -94,7 +95,7 @@ workload_served_before numbers region old run read kept served = record {
   device = served.device;
 }
 
-pub workload_before : (numbers : WorkloadNumbers) (old : State) (sectors : ℕ) (run : Run) → AreDevices old run.before → run.before.log.faults ≡ old.faults
+workload_before : (numbers : WorkloadNumbers) (old : State) (sectors : ℕ) (run : Run) → AreDevices old run.before → run.before.log.faults ≡ old.faults
     → EndsWorkload numbers sectors run → EndsWorkload numbers sectors (Earlier old run)
 workload_before numbers old sectors run are kept (inl (unbegun, small)) = inl (unbegun_before old run are.read unbegun, small)
 workload_before numbers old sectors run are kept (inr (some, ends)) =
@@ -107,23 +108,27 @@ left_by_before script old run are kept (inl (log, backing)) = inl (synced_then (
 left_by_before script old run are kept (inr (inl (found, recovered))) = inr (inl (found, recovered_before found are recovered))
 left_by_before script old run are kept (inr (inr (found, cut))) = inr (inr (found, cut_before old run.before run.after found script are.read kept cut))
 
-pub left_before : (old : State) (sectors : ℕ) (run : Run) → AreDevices old run.before → run.before.log.faults ≡ old.faults → IsLeftFrom sectors run → IsLeftFrom sectors (Earlier old run)
+left_before : (old : State) (sectors : ℕ) (run : Run) → AreDevices old run.before → run.before.log.faults ≡ old.faults → IsLeftFrom sectors run → IsLeftFrom sectors (Earlier old run)
 left_before old sectors run are kept (inl (log, backing)) = inl (reads_only are.read log, backing)
 left_before old sectors run are kept (inr (script, spelled, left)) = inr (script, spelled, left_by_before script old run are kept left)
 
-pub workload_left_before : (numbers : WorkloadNumbers) (old : State) (sectors : ℕ) (run : Run) → AreDevices old run.before → run.before.log.faults ≡ old.faults
+workload_left_before : (numbers : WorkloadNumbers) (old : State) (sectors : ℕ) (run : Run) → AreDevices old run.before → run.before.log.faults ≡ old.faults
     → IsLeftByWorkload numbers sectors run → IsLeftByWorkload numbers sectors (Earlier old run)
 workload_left_before numbers old sectors run are kept (inl (log, backing)) = inl (reads_only are.read log, backing)
 workload_left_before numbers old sectors run are kept (inr left) = inr (left_by_before (script_of numbers (region_of sectors)) old run are kept left)
 
 -- both devices were judged and are good, and the run went on
+
+pub are_devices : {old log backing : State} → OnlyRead old log → IsDevice old → IsDevice backing → AreDevices old (devices log backing)
+are_devices read on_log on_backing = record { read = read; on_log = on_log; on_backing = on_backing }
+
 module _ (Ends Wants : (sectors : ℕ) → Run → Type 0) (old : State) (run : Run) (found : Super) (judged : Lent) where
   opened : IsGood judged old run.before.log run.before.backing.sectors found → (Ends found.geometry.backing_sectors run → Ends found.geometry.backing_sectors (Earlier old run))
       → (run.status ≡ 1) ⊎ Ends found.geometry.backing_sectors run → (run.status ≡ 1) ⊎ IsUnserved (Earlier old run) ⊎ IsOpened Ends (Earlier old run)
   opened good before (inl one) = inl one
   opened good before (inr ends) = inr (inr (record { found = found; super = good.super; ids = good.ids; room = good.room; ends = before ends }))
 
-  pub good_account : IsGood judged old run.before.log run.before.backing.sectors found → (Ends found.geometry.backing_sectors run → Ends found.geometry.backing_sectors (Earlier old run))
+  good_account : IsGood judged old run.before.log run.before.backing.sectors found → (Ends found.geometry.backing_sectors run → Ends found.geometry.backing_sectors (Earlier old run))
       → (Wants found.geometry.backing_sectors run → Wants found.geometry.backing_sectors (Earlier old run))
       → Leaves (Ends found.geometry.backing_sectors) (Wants found.geometry.backing_sectors) run → ServingAccount Ends Wants (Earlier old run)
   good_account good ends_before wants_before leaves = record {
@@ -132,3 +137,16 @@ module _ (Ends Wants : (sectors : ℕ) → Run → Type 0) (old : State) (run : 
     wanting = λ one. inr (found, good.super, wants_before (leaves.wanting one));
     ends = opened good ends_before leaves.ends;
   }
+
+pub serve_account : (old : State) (run : Run) (found : Super) (judged : Lent) → AreDevices old run.before → IsGood judged old run.before.log run.before.backing.sectors found
+    → Leaves (EndsReading found.geometry.backing_sectors) (IsLeftFrom found.geometry.backing_sectors) run → ServeAccount (Earlier old run)
+serve_account old run found judged are good =
+    let sectors = found.geometry.backing_sectors in
+    good_account EndsReading IsLeftFrom old run found judged good (reading_before old sectors run are good.faults) (left_before old sectors run are good.faults)
+
+pub workload_account : (numbers : WorkloadNumbers) (old : State) (run : Run) (found : Super) (judged : Lent) → AreDevices old run.before → IsGood judged old run.before.log run.before.backing.sectors found
+    → Leaves (EndsWorkload numbers found.geometry.backing_sectors) (IsLeftByWorkload numbers found.geometry.backing_sectors) run
+    → ServingAccount (EndsWorkload numbers) (IsLeftByWorkload numbers) (Earlier old run)
+workload_account numbers old run found judged are good =
+    let sectors = found.geometry.backing_sectors in
+    good_account (EndsWorkload numbers) (IsLeftByWorkload numbers) old run found judged good (workload_before numbers old sectors run are good.faults) (workload_left_before numbers old sectors run are good.faults)

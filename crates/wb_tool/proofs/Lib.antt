@@ -15,3 +15,6 @@ pub mod SlotLines
 pub mod SlotEnds
 pub mod Recoverings
 pub mod Counts
+pub mod Summed
+pub mod Concluded
+pub mod Regions

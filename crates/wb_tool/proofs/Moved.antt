@@ -80,13 +80,13 @@ stopped_before why are stopped = stopped_opened stopped.found why (goes_before s
 pub base_after : (old : State) (mid : Devices) (found : Super) (base : Image) → OnlyRead old mid.log → IsBase found (earlier old mid) base → IsBase found mid base
 base_after old mid found base read (x, y, of) = (x, y, record { log_told = read.content ∙ of.log_told; told = of.told; makes = of.makes })
 
-bases_after : (old : State) (mid : Devices) (found : Super) (content : Option Image) → OnlyRead old mid.log → IfSome content (IsBase found (earlier old mid)) → IfSome content (IsBase found mid)
+pub bases_after : (old : State) (mid : Devices) (found : Super) (content : Option Image) → OnlyRead old mid.log → IfSome content (IsBase found (earlier old mid)) → IfSome content (IsBase found mid)
 bases_after old mid found None read is = tt
 bases_after old mid found (Some base) read is = base_after old mid found base read is
 
 -- a session
 
-session_before : (old : State) (mid after : Devices) (found : Super) (script : ScriptContent) (report : Report) → OnlyRead old mid.log → mid.log.faults ≡ old.faults
+abbrev session_before : (old : State) (mid after : Devices) (found : Super) (script : ScriptContent) (report : Report) → OnlyRead old mid.log → mid.log.faults ≡ old.faults
     → IsSession found script mid after report → IsSession found script (earlier old mid) after report
 session_before old mid after found script report read kept session = record {
   opened = may_before old mid.log mid.backing.sectors read found session.opened;
@@ -125,7 +125,7 @@ cut_before old mid after found script read kept short = record {
   session = session_before old mid after found (record script { requests = short.answered }) short.report read kept short.session;
 }
 
-pub served_before : (front text : List ℕ) (script : ScriptContent) (old : State) (run : Run) → OnlyRead old run.before.log → run.before.log.faults ≡ old.faults
+abbrev pub served_before : (front text : List ℕ) (script : ScriptContent) (old : State) (run : Run) → OnlyRead old run.before.log → run.before.log.faults ≡ old.faults
     → ServedTelling front text script run → ServedTelling front text script (record run { before = earlier old run.before })
 served_before front text script old run read kept served = record {
   found = served.found;

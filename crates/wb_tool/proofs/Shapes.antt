@@ -25,3 +25,21 @@ pub recovered_shape : (count from recorded cause : List ℕ)
     → codes "recovered " ++ (count ++ (codes " segments from " ++ (from ++ (codes " record " ++ (recorded ++ (codes " stopped " ++ (cause ++ newline)))))))
     ≡ codes "recovered " ++ count ++ codes " segments from " ++ from ++ codes " record " ++ recorded ++ codes " stopped " ++ cause ++ newline
 recovered_shape count from recorded cause = simp append_assoc refl
+
+-- the pieces of the line of a workload
+
+abbrev pub counts_pieces : (requests writes reads flushes : List ℕ) → List ℕ
+counts_pieces requests writes reads flushes = codes "requests " ++ requests ++ codes " writes " ++ writes ++ codes " reads " ++ reads ++ codes " flushes " ++ flushes
+
+pub counts_shape : (requests writes reads flushes : List ℕ)
+    → codes "requests " ++ (requests ++ (codes " writes " ++ (writes ++ (codes " reads " ++ (reads ++ (codes " flushes " ++ flushes)))))) ≡ counts_pieces requests writes reads flushes
+counts_shape requests writes reads flushes = simp append_assoc refl
+
+abbrev pub workload_pieces : (seed clients counts sum : List ℕ) → List ℕ
+workload_pieces seed clients counts sum =
+    codes "workload seed " ++ seed ++ codes " clients " ++ clients ++ codes " " ++ counts ++ codes " sum " ++ sum ++ newline
+
+pub workload_shape : (seed clients counts sum : List ℕ)
+    → codes "workload seed " ++ (seed ++ (codes " clients " ++ (clients ++ (codes " " ++ (counts ++ (codes " sum " ++ (sum ++ newline)))))))
+    ≡ workload_pieces seed clients counts sum
+workload_shape seed clients counts sum = simp append_assoc refl

@@ -1,5 +1,5 @@
 -- Words of the command line, and the numbers that they spell.
-use Rattle.std.proofs.Common.{◌≡◌, ◌<◌, ◌≤◌, ◌^◌, ℕ, List, [], ◌∷◌, length, map, get_or, None, Result, Ok, Err, IfErr, MatchOption, refl, sym, ap, ◌∙◌, subst, arith}
+use Rattle.std.proofs.Common.{◌≡◌, ◌⊎◌, inl, inr, ◌<◌, ◌≤◌, ◌^◌, ℕ, List, [], ◌∷◌, length, map, get_or, None, Result, Ok, Err, IfErr, MatchOption, refl, sym, ap, ◌∙◌, subst, arith}
 use Rattle.std.specs.Fmt.{decimal}
 use Rattle.std.specs.Result.{OkIff, result_ok}
 use Rattle.std.proofs.lemmas.Fmt.{decimal_injective}
@@ -8,7 +8,8 @@ use Rattle.wb_geometry.specs.declared.geometry.Geometry.{Geometry}
 use Rattle.wb_geometry.specs.declared.geometry.GeometryRefused.{GeometryRefused}
 use Rattle.wb_geometry.specs.declared.geometry.GeometryRefused.TheVariants.{Order, Slots, Ram, Backing}
 use Rattle.wb_tool.specs.declared.command.Numbers.{Numbers}
-use Rattle.wb_tool.specs.Commands.{SpellNumbers}
+use Rattle.wb_tool.specs.declared.command.WorkloadNumbers.{WorkloadNumbers}
+use Rattle.wb_tool.specs.Commands.{SpellNumbers, SpellWorkload}
 
 -- a number that a word spells, and whether it is below 2 ^ 32
 pub fits_32 : {E : Type 0} (word : List ℕ) (n : ℕ) (r : Result ℕ E) → (n < 2 ^ 64) × (word ≡ decimal n) → OkIff r (n < 2 ^ 32) n
@@ -36,7 +37,16 @@ no_numbers order slots ram o s r (Err refused) spelled_o spelled_s spelled_r non
     (decimal_injective numbers.ram r (omega (arith, spell.ram_fits.1)) (omega (arith, spelled_r.0)) (sym spell.ram_is ∙ spelled_r.1))
     spell.order_fits spell.slots_fit spell.ram_fits
 
--- three words, and six
+-- a word of a workload that spells none of its counts
+pub no_workload : (seed count : List ℕ) (c : ℕ) → (c < 2 ^ 64) × (count ≡ decimal c) → (c ≡ 0) ⊎ (25000 < c) → (numbers : WorkloadNumbers) → SpellWorkload seed count numbers → ⊥
+no_workload seed count c spelled out numbers spell =
+    let same : numbers.count ≡ c = decimal_injective numbers.count c (omega (arith, spell.few)) spelled.0 (sym spell.count_is ∙ spelled.1) in
+    elim out [
+      | inl none ↦ omega (arith, same, none, spell.some)
+      | inr many ↦ omega (arith, same, many, spell.few)
+    ]
+
+-- three words, five and six
 pub record AreThree (words : List (List ℕ)) (name : List ℕ) : Type 0 where
   pub second : List ℕ
   pub third : List ℕ
@@ -50,6 +60,25 @@ three_words text (x ∷ y ∷ []) first name three is named = absurd (omega arit
 three_words text (x ∷ y ∷ z ∷ []) first name three is named =
     record { second = text y; third = text z; are = ap (λ w. w ∷ text y ∷ text z ∷ []) (sym (ap text is) ∙ named) }
 three_words text (x ∷ y ∷ z ∷ w ∷ ws) first name three is named = absurd (omega arith)
+
+pub record AreFive (words : List (List ℕ)) (name fourth fifth : List ℕ) : Type 0 where
+  pub second : List ℕ
+  pub third : List ℕ
+  pub are : words ≡ name ∷ second ∷ third ∷ fourth ∷ fifth ∷ []
+
+pub five_words : {X : Type 0} (text : X → List ℕ) (ws : List X) (a d e : X) (name : List ℕ) → length ws ≡ 5
+    → a ≡ get_or ws 0 a → d ≡ get_or ws 3 d → e ≡ get_or ws 4 e
+    → text a ≡ name → AreFive (map text ws) name (text d) (text e)
+five_words text [] a d e name five is_a is_d is_e named = absurd (omega arith)
+five_words text (p ∷ []) a d e name five is_a is_d is_e named = absurd (omega arith)
+five_words text (p ∷ q ∷ []) a d e name five is_a is_d is_e named = absurd (omega arith)
+five_words text (p ∷ q ∷ r ∷ []) a d e name five is_a is_d is_e named = absurd (omega arith)
+five_words text (p ∷ q ∷ r ∷ s ∷ []) a d e name five is_a is_d is_e named = absurd (omega arith)
+five_words text (p ∷ q ∷ r ∷ s ∷ t ∷ []) a d e name five is_a is_d is_e named =
+    let whole : map text (p ∷ q ∷ r ∷ s ∷ t ∷ []) ≡ text a ∷ text q ∷ text r ∷ text d ∷ text e ∷ [] =
+    rw (← is_a, ← is_d, ← is_e) refl in
+    record { second = text q; third = text r; are = whole ∙ ap (λ w. w ∷ text q ∷ text r ∷ text d ∷ text e ∷ []) named }
+five_words text (p ∷ q ∷ r ∷ s ∷ t ∷ u ∷ ws) a d e name five is_a is_d is_e named = absurd (omega arith)
 
 pub record AreSix (words : List (List ℕ)) (name fourth fifth sixth : List ℕ) : Type 0 where
   pub second : List ℕ

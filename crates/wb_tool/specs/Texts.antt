@@ -89,10 +89,12 @@ abbrev pub inspected_line : Super → List ℕ
 inspected_line found =
     codes "version " ++ decimal found.version ++ codes " " ++ geometry_text found.geometry ++ codes " record " ++ decimal found.recorded ++ newline
 
--- the line of a workload: its seed, how many clients and requests it has, how many of these are of each kind, and the checksum
--- of what it leaves
-abbrev pub workload_line : (seed clients requests writes reads flushes sum : ℕ) → List ℕ
-workload_line seed clients requests writes reads flushes sum =
-    codes "workload seed " ++ decimal seed ++ codes " clients " ++ decimal clients ++ codes " requests " ++ decimal requests
-    ++ codes " writes " ++ decimal writes ++ codes " reads " ++ decimal reads ++ codes " flushes " ++ decimal flushes
-    ++ codes " sum " ++ sum_text sum ++ newline
+-- how many requests a workload has, and how many of these are of each kind
+abbrev pub counts_text : (requests writes reads flushes : ℕ) → List ℕ
+counts_text requests writes reads flushes =
+    codes "requests " ++ decimal requests ++ codes " writes " ++ decimal writes ++ codes " reads " ++ decimal reads ++ codes " flushes " ++ decimal flushes
+
+-- the line of a workload: its seed, how many clients it has, those numbers, and the checksum of what it leaves
+abbrev pub workload_line : (seed clients : ℕ) → (counts : List ℕ) → (sum : ℕ) → List ℕ
+workload_line seed clients counts sum =
+    codes "workload seed " ++ decimal seed ++ codes " clients " ++ decimal clients ++ codes " " ++ counts ++ codes " sum " ++ sum_text sum ++ newline

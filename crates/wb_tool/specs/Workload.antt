@@ -11,14 +11,14 @@ use Rattle.wb_script.specs.declared.request.Request.TheVariants.{Write, Read, Re
 use Rattle.wb_serve.specs.Session.{IsBase}
 use Rattle.wb_tool.specs.declared.command.WorkloadNumbers.{WorkloadNumbers}
 use Rattle.wb_tool.specs.Run.{Run, IsUntouched}
-use Rattle.wb_tool.specs.Texts.{workload_line}
+use Rattle.wb_tool.specs.Texts.{counts_text, workload_line}
 use Rattle.wb_tool.specs.Served.{ServedTelling}
 use Rattle.wb_tool.specs.Opening.{EndsByBacking}
 use Rattle.wb_tool.specs.Ends.{IsUnbegun, IsLeftBy, OnlyLogRead, EndsServing, ServingAccount}
 
 -- the sectors that a workload is for, of a cache of so many: a multiple of 32, and 65,536 at most
 abbrev pub region_of : (sectors : ℕ) → ℕ
-region_of sectors = 32 * (min sectors 65536 / 32)
+region_of sectors = min sectors 65536 / 32 * 32
 
 -- the script of these numbers for a region
 abbrev pub script_of : WorkloadNumbers → (region : ℕ) → ScriptContent
@@ -57,11 +57,15 @@ is_flush (Hear client) = false
 abbrev pub how_many : (Request → Bool) → ScriptContent → ℕ
 how_many is script = sum_by (count_by is) script.requests
 
--- the line of the workload over this region, which has this checksum
-abbrev pub line_of : WorkloadNumbers → (region sum : ℕ) → List ℕ
-line_of numbers region sum =
+-- the numbers of requests in the line of the workload over this region
+abbrev pub counts_of : WorkloadNumbers → (region : ℕ) → List ℕ
+counts_of numbers region =
     let script = script_of numbers region in
-    workload_line numbers.seed workload_clients (workload_clients * numbers.count) (how_many is_write script) (how_many is_read script) (how_many is_flush script) sum
+    counts_text (workload_clients * numbers.count) (how_many is_write script) (how_many is_read script) (how_many is_flush script)
+
+-- and its line, with this checksum
+abbrev pub line_of : WorkloadNumbers → (region sum : ℕ) → List ℕ
+line_of numbers region sum = workload_line numbers.seed workload_clients (counts_of numbers region) sum
 
 -- ---- its ends
 

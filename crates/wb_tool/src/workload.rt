@@ -8,7 +8,7 @@ ghost use Rattle.wb_script.specs.Valid.{IsValid};
 ghost use Rattle.wb_tool.specs.Run.{Lent, IsUntouched, run_of, lent};
 ghost use Rattle.wb_tool.specs.Ends.{Leaves, EndsServing, IsLeftBy};
 ghost use Rattle.wb_tool.specs.Stages.{IsUnread, IsSummed};
-ghost use Rattle.wb_tool.specs.Workload.{WorkloadAccount, EndsWorkload, ServedWorkload, IsLeftByWorkload, script_of, line_of};
+ghost use Rattle.wb_tool.specs.Workload.{WorkloadAccount, EndsWorkload, ServedWorkload, IsLeftByWorkload, script_of, counts_of, line_of};
 
 use crate::command::WorkloadNumbers;
 use crate::opening::{judge_devices, refuse_backing};
@@ -214,15 +214,23 @@ fn workload_text(alloc: Global, numbers: WorkloadNumbers, sum: u32) -> Result<St
     requires few { numbers.count ≤ 25000 }
     ensures { (region : ℕ) → IfOk result (λ text. string_bytes text ≡ line_of numbers region sum) }
 {
-    let WorkloadNumbers { seed, count } = numbers;
+    let (seed, clients) = (numbers.seed, CLIENTS);
+    let counts = counts_text(alloc, numbers)?;
+    let sum = sum_text(alloc, sum)?;
+    format!(in alloc; "workload seed {seed} clients {clients} {counts} sum {sum}\n")
+}
+
+/// How many requests a workload has, and how many of each kind.
+fn counts_text(alloc: Global, numbers: WorkloadNumbers) -> Result<String, AllocError>
+    requires few { numbers.count ≤ 25000 }
+    ensures { (region : ℕ) → IfOk result (λ text. string_bytes text ≡ counts_of numbers region) }
+{
+    let count = numbers.count;
     let requests = CLIENTS * count;
     let flushes = count / FLUSH_PERIOD;
     // requests of even number are writes, but for each second flush, beginning with the first
-    let writes = CLIENTS * (count.div_ceil(2) - flushes.div_ceil(2));
+    let writes = CLIENTS * ((count + 1) / 2 - (flushes + 1) / 2);
     let reads = CLIENTS * (count / 2 - flushes / 2);
     let flushes = CLIENTS * flushes;
-    let sum = sum_text(alloc, sum)?;
-    format!(in alloc;
-        "workload seed {seed} clients {CLIENTS} requests {requests} writes {writes} reads {reads} flushes {flushes} sum {sum}\n"
-    )
+    format!(in alloc; "requests {requests} writes {writes} reads {reads} flushes {flushes}")
 }

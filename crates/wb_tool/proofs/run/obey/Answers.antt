@@ -2,7 +2,7 @@ use Rattle.std.proofs.Common.{map, refl, subst}
 use Rattle.std.specs.String.{string_bytes}
 use Rattle.wb_tool.specs.Commands.{IsForm}
 use Rattle.wb_geometry.proofs.Moments.{uncalled}
-use Rattle.wb_tool.specs.declared.command.Command.TheVariants.{Format, Recover, InspectSlot}
+use Rattle.wb_tool.specs.declared.command.Command.TheVariants.{Format, Recover, InspectSlot, Workload}
 use Rattle.wb_tool.proofs.Accounts.{accounted, usage_accounted, untouched}
 use Rattle.wb_tool.proofs.Formatted.{format_ends}
 use Rattle.wb_tool.proofs.run.obey.Goals as goal
@@ -51,3 +51,13 @@ returns-in-Some-InspectSlot g c =
       unread = untouched _ _;
       ends = c.inspect_slot-status.ensures;
     }))
+
+pub serve_workload-requires : goal.serve_workload-requires
+serve_workload-requires g c =
+    let form = subst (λ command. IsForm command (map string_bytes c.args.words.now)) c.in-Some-Workload.field-0-is c.in-Some-Workload.ensures in
+    record { some = form.spelled.some; few = form.spelled.few }
+
+pub returns-in-Some-Workload : goal.returns-in-Some-Workload
+returns-in-Some-Workload g c =
+    accounted (Workload c.in-Some-Workload.numbers) _ _ (subst (λ command. IsForm command (map string_bytes c.args.words.now)) c.in-Some-Workload.field-0-is c.in-Some-Workload.ensures)
+    (c.serve_workload.ensures _ (untouched _ _))

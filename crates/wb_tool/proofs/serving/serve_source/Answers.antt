@@ -20,7 +20,7 @@ returns-in-Ok-parse g c =
     let read = c.in-Ok.ensures.read in
     let parsed = c.in-Ok-parse.ensures.script in
     script_leaves _ c.in-Ok-parse.script _ _ _ _ _ _ _ _ _ c.in-Ok.ensures.kept
-    (spells _ _ _ _ _ _ read c.as_slice.ensures.value parsed) (script_at_end _ _ _ _ _ _ read c.as_slice.ensures.value parsed) c.serve_script.ensures
+    (spells _ _ _ _ _ _ read c.as_slice.ensures.value parsed) (script_at_end _ _ _ _ _ _ read c.as_slice.ensures.value parsed) (c.serve_script.ensures _)
 
 pub returns : goal.returns
 returns g c =
