@@ -1,9 +1,12 @@
-//! Tests of the engine. Few functions own one: they open it, lend it to what is to be done with it, and close it. So the
-//! proofs stay short.
+//! Tests of the engine. Only the functions that end a cache own one, and they are told by a `Play` what to do with it before.
+//! So the proofs stay short.
 ghost use Rattle.std.specs.Prelude.{◌≡◌, ◌≤◌, ◌+◌, true};
 ghost use Rattle.wb_engine.specs.Standing.{Fits};
 
+mod batches;
 mod calls;
+mod crashes;
+mod driven;
 mod faults;
 mod listed;
 mod opening;
@@ -12,8 +15,9 @@ mod runs;
 mod settling;
 mod slots;
 
-use crate::{Engine, Turn};
+use crate::{Closed, Engine, OpenStop, Turn};
 use std::alloc::{AllocError, Global};
+use std::process::Abort;
 use std::test::Fail;
 use wb_device::{Device, FaultPlan, MemoryDevice, SteadyDevice};
 use wb_geometry::{Block, Entry, Geometry, Part, Spot, Which};
@@ -48,6 +52,14 @@ fn log_of(alloc: Global, sectors: u32, recorded: Option<u64>) -> Result<SteadyDe
     Ok(log)
 }
 
+/// A log that is formatted for so many slots of order 4, which have a place each.
+fn narrow_log(alloc: Global, slots: u32) -> Result<SteadyDevice, Fail> {
+    let sectors = 2048 + 16 * slots as usize;
+    let mut log = SteadyDevice::of(vec![in alloc; 0; sectors * SECTOR_BYTES]?);
+    format(&mut log, &Geometry::new(4, slots, 2, 64)?)?;
+    Ok(log)
+}
+
 /// The bytes of a backing device of so many sectors.
 fn former_bytes(alloc: Global, sectors: u32) -> Result<Vec<u8>, AllocError> {
     let mut bytes = vec![in alloc; 0; sectors as usize * SECTOR_BYTES]?;
@@ -59,16 +71,51 @@ fn former_bytes(alloc: Global, sectors: u32) -> Result<Vec<u8>, AllocError> {
     Ok(bytes)
 }
 
-/// A cache over these devices.
-fn cache_over<L: Device, B: Device>(
+/// What is done with a cache before it is ended.
+trait Play<L: Device, B: Device> {
+    /// Does it, or says what went otherwise.
+    fn carry_out(&mut self, alloc: Global, engine: &mut Engine<L, B>) -> Result<(), Fail>;
+}
+
+/// What closing leaves of a cache over these devices, with which this was done before.
+fn closed_after<L: Device, B: Device>(
     alloc: Global,
     log: L,
     backing: B,
-) -> Result<Engine<L, B>, Fail> {
+    play: &mut impl Play<L, B>,
+) -> Result<Closed<L, B>, Fail> {
     match Engine::open(alloc, log, backing) {
-        Ok(engine) => Ok(engine),
+        Ok(mut engine) => {
+            let done = play.carry_out(alloc, &mut engine);
+            let closed = engine.close();
+            done?;
+            Ok(closed)
+        }
         Err(stop) => Err(stop.cause.into()),
     }
+}
+
+/// The record with which a cache over these devices begins, and the devices, which it gave back at once.
+fn begun<L: Device, B: Device>(
+    alloc: Global,
+    log: L,
+    backing: B,
+) -> Result<(u64, L, B), OpenStop<L, B>> {
+    let engine = Engine::open(alloc, log, backing)?;
+    let first = engine.first();
+    let (log, backing) = engine.into_devices();
+    Ok((first, log, backing))
+}
+
+/// The bytes that fill its sectors, where there are 64.
+fn former_fills() -> [u8; 64] {
+    let mut fills = [0; 64];
+    let mut fill = FORMER;
+    for place in &mut fills {
+        *place = fill;
+        fill = fill.wrapping_add(1);
+    }
+    fills
 }
 
 /// A new log.
@@ -115,6 +162,19 @@ fn filled(alloc: Global, part: &Part, fill: u8) -> Result<Box<Block>, AllocError
     Block::boxed(alloc, part, &bytes[..512 * usize::from(part.count)])
 }
 
+/// A write of these sectors, all filled with this byte.
+fn write_of(alloc: Global, part: &Part, fill: u8) -> Result<Entry, Fail> {
+    holds(
+        part.count != 0 && part.from < 8 && part.count <= 8 - part.from,
+        "no part of a block",
+    )?;
+    Ok(Entry::Write {
+        client: 0,
+        block: part.block,
+        payload: filled(alloc, part, fill)?,
+    })
+}
+
 /// Writes these sectors, all filled with this byte, where there is room, and says whether there was.
 fn write<L: Device, B: Device>(
     alloc: Global,
@@ -122,14 +182,7 @@ fn write<L: Device, B: Device>(
     part: &Part,
     fill: u8,
 ) -> Result<bool, Fail> {
-    if part.count == 0 || part.from >= 8 || part.count > 8 - part.from {
-        return Err(Fail::new("no part of a block"));
-    }
-    let entry = Entry::Write {
-        client: 0,
-        block: part.block,
-        payload: filled(alloc, part, fill)?,
-    };
+    let entry = write_of(alloc, part, fill)?;
     Ok(put(engine, entry))
 }
 
@@ -141,10 +194,14 @@ fn turn<L: Device, B: Device>(engine: &mut Engine<L, B>) -> Option<Result<Turn, 
     Some(engine.turn())
 }
 
-/// Whether these bytes are sectors that are filled with these bytes.
-fn are_filled(bytes: &[u8], fills: &[u8; 8]) -> bool {
-    bytes.chunks_exact(SECTOR_BYTES).zip(fills).all(|(sector, fill)| sector
-        == [*fill; SECTOR_BYTES].as_slice())
+/// Whether these bytes begin with sectors that are filled with these bytes.
+fn are_filled(bytes: &[u8], fills: &[u8]) -> bool {
+    for (sector, fill) in bytes.chunks_exact(SECTOR_BYTES).zip(fills) {
+        if sector != [*fill; SECTOR_BYTES].as_slice() {
+            return false;
+        }
+    }
+    fills.len() <= bytes.len() / SECTOR_BYTES
 }
 
 /// Whether the block is read as these bytes, one a sector.
@@ -177,6 +234,11 @@ fn holds(condition: bool, text: &str) -> Result<(), Fail> {
     }
 }
 
+/// The row of a table holds.
+fn row_holds(rt: &impl Abort, holds: bool, at: usize) {
+    assert!(rt; holds, "row {at}");
+}
+
 /// Writes the third sector of a block, filled with its number, where there is room.
 fn write_third<L: Device, B: Device>(
     alloc: Global,
@@ -191,14 +253,28 @@ fn write_third<L: Device, B: Device>(
     write(alloc, engine, &part, block)
 }
 
-/// Whether the third sector of a block is read, and is filled with its number.
-fn reads_third<L: Device, B: Device>(engine: &mut Engine<L, B>, block: u8) -> bool {
-    let sector = 8 * u64::from(block) + 2;
+/// Whether this sector is read as these bytes.
+fn reads_sector<L: Device, B: Device>(engine: &mut Engine<L, B>, sector: u64, want: &[u8]) -> bool {
     if sector >= engine.geometry().backing_sectors {
         return false;
     }
     let mut bytes = [0; SECTOR_BYTES];
-    engine.read(sector, &mut bytes).is_ok() && bytes == [block; SECTOR_BYTES]
+    engine.read(sector, &mut bytes).is_ok() && bytes.as_slice() == want
+}
+
+/// Whether the third sector of a block is read, and is filled with its number.
+fn reads_third<L: Device, B: Device>(engine: &mut Engine<L, B>, block: u8) -> bool {
+    reads_sector(engine, 8 * u64::from(block) + 2, &[block; SECTOR_BYTES])
+}
+
+/// Whether the third sector of each of the first blocks is read.
+fn reads_thirds<L: Device, B: Device>(engine: &mut Engine<L, B>, blocks: u8) -> bool {
+    for block in 0..blocks {
+        if !reads_third(engine, block) {
+            return false;
+        }
+    }
+    true
 }
 
 /// A plan of a device on which each call from this one on fails.

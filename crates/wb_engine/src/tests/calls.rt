@@ -1,5 +1,5 @@
 //! The calls that each step makes of both devices.
-use super::{cache_over, holds, new_backing, new_log, reads_third, turn, write_third};
+use super::{Play, closed_after, holds, new_backing, new_log, reads_third, turn, write_third};
 use crate::{Closed, Engine, Turn};
 use std::alloc::Global;
 use std::test::Fail;
@@ -30,16 +30,15 @@ pub(super) fn was_called(engine: &Engine<Listed, Listed>, log: Counts, backing: 
 }
 
 /// What each turn does, and how often the log and the backing device were called then, with the calls that opened them: two
-/// segments are logged by a write each, one sync covers both, and each is written back by the reads of its blocks, a write for each
-/// run of sectors, and a sync.
-const STEPS: [(Turn, Counts, Counts); 7] = [
+/// segments are logged by a write each, one sync covers both, and both are written back by the reads of their blocks, a write
+/// for each run of sectors, and one sync.
+const STEPS: [(Turn, Counts, Counts); 6] = [
     (Turn::Logged, (7, 2, 2), (0, 0, 2)),
     (Turn::Logged, (7, 3, 2), (0, 0, 2)),
     (Turn::Synced, (7, 3, 3), (0, 0, 2)),
-    (Turn::Backed, (10, 3, 3), (0, 3, 3)),
-    (Turn::Backed, (11, 3, 3), (0, 4, 4)),
-    (Turn::Recorded, (11, 4, 4), (0, 4, 4)),
-    (Turn::Idle, (11, 4, 4), (0, 4, 4)),
+    (Turn::Backed, (11, 3, 3), (0, 4, 3)),
+    (Turn::Recorded, (11, 4, 4), (0, 4, 3)),
+    (Turn::Idle, (11, 4, 4), (0, 4, 3)),
 ];
 
 /// Two segments: one of three blocks, and one of one block.
@@ -53,11 +52,16 @@ fn write_two_segments(alloc: Global, engine: &mut Engine<Listed, Listed>) -> Res
     holds(quiet, "a device was called for a sector in memory")
 }
 
+/// Whether a turn does this, with so many calls behind it.
+fn turns_so(engine: &mut Engine<Listed, Listed>, row: &(Turn, Counts, Counts)) -> bool {
+    let (want, log, backing) = row;
+    turn(engine) == Some(Ok(*want)) && was_called(engine, *log, *backing)
+}
+
 /// The turns that put both to their places.
 fn count_turns(engine: &mut Engine<Listed, Listed>) -> Result<(), Fail> {
-    for (want, log, backing) in &STEPS {
-        holds(turn(engine) == Some(Ok(*want)), "a turn did something else")?;
-        holds(was_called(engine, *log, *backing), "other calls")?;
+    for row in &STEPS {
+        holds(turns_so(engine, row), "a turn did something else")?;
     }
     Ok(())
 }
@@ -149,9 +153,9 @@ fn count_reads(alloc: Global, engine: &mut Engine<Listed, Listed>) -> Result<(),
     )
 }
 
-/// What closing then did of both: a segment was left to log, one sync covers both, and a record.
+/// What closing then did of both: a segment was left to log, one sync covers both, one batch, and a record.
 fn closed_well(closed: &Closed<Listed, Listed>) -> bool {
-    closed.fault.is_none() && counts_of(&closed.log, &closed.backing) == ((12, 4, 4), (1, 4, 4))
+    closed.fault.is_none() && counts_of(&closed.log, &closed.backing) == ((12, 4, 4), (1, 4, 3))
 }
 
 /// What is counted before a cache is closed.
@@ -161,23 +165,32 @@ enum Count {
     Reads,
 }
 
-/// What closing leaves of a cache over new devices, of whose calls these were counted before.
-fn closed_after(alloc: Global, count: Count) -> Result<Closed<Listed, Listed>, Fail> {
-    let log = listed(alloc, new_log(alloc)?)?;
-    let mut engine = cache_over(alloc, log, listed(alloc, new_backing(alloc)?)?)?;
-    match count {
-        Count::Turns => {
-            write_two_segments(alloc, &mut engine)?;
-            count_turns(&mut engine)?;
+impl Play<Listed, Listed> for Count {
+    fn carry_out(
+        &mut self,
+        alloc: Global,
+        engine: &mut Engine<Listed, Listed>,
+    ) -> Result<(), Fail> {
+        match *self {
+            Count::Turns => {
+                write_two_segments(alloc, engine)?;
+                count_turns(engine)
+            }
+            Count::Reads => count_reads(alloc, engine),
         }
-        Count::Reads => count_reads(alloc, &mut engine)?,
     }
-    Ok(engine.close())
+}
+
+/// What closing leaves of a cache over new devices, of whose calls these were counted before.
+fn closed_after_counts(alloc: Global, mut count: Count) -> Result<Closed<Listed, Listed>, Fail> {
+    let log = listed(alloc, new_log(alloc)?)?;
+    let backing = listed(alloc, new_backing(alloc)?)?;
+    closed_after(alloc, log, backing, &mut count)
 }
 
 #[test]
 fn each_turn_makes_the_calls_that_it_needs(rt: HostRuntime) -> Result<(), Fail> {
-    let closed = closed_after(rt.alloc(), Count::Turns)?;
+    let closed = closed_after_counts(rt.alloc(), Count::Turns)?;
     assert!(rt; closed.log.calls().get(..10) == Some(OPENING.as_slice()));
     assert!(rt; closed.log.calls().get(10..) == Some(CALLS.as_slice()));
     Ok(())
@@ -185,7 +198,7 @@ fn each_turn_makes_the_calls_that_it_needs(rt: HostRuntime) -> Result<(), Fail> 
 
 #[test]
 fn a_read_and_a_close_make_the_calls_that_they_need(rt: HostRuntime) -> Result<(), Fail> {
-    let closed = closed_after(rt.alloc(), Count::Reads)?;
+    let closed = closed_after_counts(rt.alloc(), Count::Reads)?;
     assert!(rt; closed_well(&closed));
     Ok(())
 }

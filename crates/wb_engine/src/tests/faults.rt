@@ -1,14 +1,13 @@
 //! An engine of which a device fails: it is down, absorbs while there is room, and still reads.
 use super::{
-    cache_over, failing_backing, failing_log, holds, new_backing, new_log, reads_third, turn,
-    write_third,
+    Play, closed_after, failing_backing, failing_log, holds, narrow_log, new_backing, new_log,
+    reads_thirds, turn, write_third,
 };
-use crate::{Closed, Engine, Turn};
-use std::alloc::Global;
+use crate::{Engine, Turn};
+use std::alloc::{AllocError, Global};
 use std::test::Fail;
 use wb_device::{Device, FaultPlan, MemoryDevice, PlannedFault, SteadyDevice};
-use wb_geometry::{Geometry, Which};
-use wb_super::format;
+use wb_geometry::Which;
 
 /// Writes the third sectors of these blocks, for which there is room.
 pub(super) fn write_all<L: Device, B: Device>(
@@ -21,11 +20,6 @@ pub(super) fn write_all<L: Device, B: Device>(
         holds(done, "there was no room")?;
     }
     Ok(())
-}
-
-/// Whether the third sector of each of the first blocks is read.
-fn reads_all<L: Device, B: Device>(engine: &mut Engine<L, B>, blocks: u8) -> bool {
-    (0..blocks).all(|block| reads_third(engine, block))
 }
 
 /// Makes turns, each of which does this.
@@ -53,32 +47,35 @@ fn fill_down<L: Device, B: Device>(
     write_all(alloc, engine, blocks)?;
     let more = write_third(alloc, engine, 6)?;
     holds(!more, "there was still room")?;
-    holds(
-        reads_all(engine, count),
-        "a block is read as something else",
-    )
+    holds(reads_thirds(engine, count), "a block is read as another")
 }
 
-/// A write to the backing device fails. To open the cache took two syncs of it.
-fn fail_writing_back(
-    alloc: Global,
-    engine: &mut Engine<SteadyDevice, MemoryDevice>,
-) -> Result<(), Fail> {
-    write_all(alloc, engine, &[0, 1, 2, 3])?;
-    take_turns(
-        engine,
-        &[Ok(Turn::Logged), Ok(Turn::Synced), Err(Which::Backing)],
-    )?;
-    fill_down(alloc, engine, Which::Backing, &[4, 5, 6, 7, 7], 8)?;
-    holds(engine.backing.calls() == 3, "the device was called again")
+/// A write to the backing device fails.
+#[derive(Drop)]
+struct WriteBack;
+
+impl Play<SteadyDevice, MemoryDevice> for WriteBack {
+    /// To open the cache took two syncs of the backing device.
+    fn carry_out(
+        &mut self,
+        alloc: Global,
+        engine: &mut Engine<SteadyDevice, MemoryDevice>,
+    ) -> Result<(), Fail> {
+        write_all(alloc, engine, &[0, 1, 2, 3])?;
+        take_turns(
+            engine,
+            &[Ok(Turn::Logged), Ok(Turn::Synced), Err(Which::Backing)],
+        )?;
+        fill_down(alloc, engine, Which::Backing, &[4, 5, 6, 7, 7], 8)?;
+        holds(engine.backing.calls() == 3, "the device was called again")
+    }
 }
 
 #[test]
 fn a_failed_write_back_takes_it_down(rt: HostRuntime) -> Result<(), Fail> {
-    let alloc = rt.alloc();
-    let mut engine = cache_over(alloc, new_log(alloc)?, failing_backing(alloc, 2)?)?;
-    fail_writing_back(alloc, &mut engine)?;
-    let closed = engine.close();
+    let log = new_log(rt.alloc())?;
+    let backing = failing_backing(rt.alloc(), 2)?;
+    let closed = closed_after(rt.alloc(), log, backing, &mut WriteBack)?;
     assert!(rt; closed.fault == Some(Which::Backing) && closed.backing.calls() == 3);
     Ok(())
 }
@@ -92,18 +89,16 @@ fn fail_first(alloc: Global, engine: &mut Engine<MemoryDevice, SteadyDevice>) ->
     holds(engine.log.calls() == 11, "the device was called again")
 }
 
-/// A log of eight slots with a place each, whose third write of a segment fails and stores nothing. To open it takes two
-/// reads, a sync, a read of an id in each slot, one of a whole slot, a write and a sync.
-fn narrow_log(alloc: Global) -> Result<MemoryDevice, Fail> {
-    let mut log = SteadyDevice::of(vec![in alloc; 0; 2176 * 512]?);
-    format(&mut log, &Geometry::new(4, 8, 2, 64)?)?;
-    let faults = vec![in alloc;
-        PlannedFault {
-            call: 16,
-            sectors: 0
-        },
-    ]?;
-    Ok(MemoryDevice::of(alloc, log.into_bytes(), FaultPlan { faults, stop: None })?)
+/// A log whose third write of a segment fails and stores nothing. To open it takes two reads, a sync, a read of an id in each
+/// slot, one of a whole slot, a write and a sync.
+fn failing_third(alloc: Global, log: SteadyDevice) -> Result<MemoryDevice, AllocError> {
+    let fault = PlannedFault {
+        call: 16,
+        sectors: 0,
+    };
+    let mut faults = Vec::new(alloc);
+    faults.push(fault)?;
+    MemoryDevice::of(alloc, log.into_bytes(), FaultPlan { faults, stop: None })
 }
 
 /// Two segments are logged, and the write of the third fails. The sectors of both are read from the log then.
@@ -123,32 +118,42 @@ enum Failing {
     Third,
 }
 
-/// What closing leaves of a cache over this log, of which this write fails before.
-fn closed_after(
+impl Play<MemoryDevice, SteadyDevice> for Failing {
+    fn carry_out(
+        &mut self,
+        alloc: Global,
+        engine: &mut Engine<MemoryDevice, SteadyDevice>,
+    ) -> Result<(), Fail> {
+        match *self {
+            Failing::First => fail_first(alloc, engine),
+            Failing::Third => fail_third(alloc, engine),
+        }
+    }
+}
+
+/// By which device a cache over this log is down, of which this write fails, and how often the log was called.
+fn ended_after(
     alloc: Global,
     log: MemoryDevice,
-    failing: Failing,
-) -> Result<Closed<MemoryDevice, SteadyDevice>, Fail> {
-    let mut engine = cache_over(alloc, log, new_backing(alloc)?)?;
-    match failing {
-        Failing::First => fail_first(alloc, &mut engine)?,
-        Failing::Third => fail_third(alloc, &mut engine)?,
-    }
-    Ok(engine.close())
+    mut failing: Failing,
+) -> Result<(Option<Which>, u64), Fail> {
+    let backing = new_backing(alloc)?;
+    let closed = closed_after(alloc, log, backing, &mut failing)?;
+    Ok((closed.fault, closed.log.calls()))
 }
 
 #[test]
 fn a_failed_log_write_takes_it_down(rt: HostRuntime) -> Result<(), Fail> {
     let log = failing_log(rt.alloc(), 10)?;
-    let closed = closed_after(rt.alloc(), log, Failing::First)?;
-    assert!(rt; closed.fault == Some(Which::Log) && closed.log.calls() == 11);
+    let ended = ended_after(rt.alloc(), log, Failing::First)?;
+    assert!(rt; ended == (Some(Which::Log), 11));
     Ok(())
 }
 
 #[test]
 fn the_third_write_of_a_segment_fails(rt: HostRuntime) -> Result<(), Fail> {
-    let log = narrow_log(rt.alloc())?;
-    let closed = closed_after(rt.alloc(), log, Failing::Third)?;
-    assert!(rt; closed.fault == Some(Which::Log) && closed.log.calls() == 19);
+    let log = failing_third(rt.alloc(), narrow_log(rt.alloc(), 8)?)?;
+    let ended = ended_after(rt.alloc(), log, Failing::Third)?;
+    assert!(rt; ended == (Some(Which::Log), 19));
     Ok(())
 }

@@ -1,9 +1,9 @@
 //! The engine beside a plain list of what was written.
 use super::{
-    FORMER, NOWHERE, OPENED, SECTOR_BYTES, are_filled, cache_over, holds, new_backing, new_log,
-    put, reads_as, spots_of, turn, write,
+    FORMER, NOWHERE, OPENED, Play, SECTOR_BYTES, are_filled, closed_after, holds, new_backing,
+    new_log, put, reads_as, spots_of, turn, write,
 };
-use crate::{Closed, Engine, Turn};
+use crate::{Engine, Turn};
 use std::alloc::Global;
 use std::test::Fail;
 use wb_device::SteadyDevice;
@@ -102,7 +102,7 @@ impl Plain {
             self.stable = self.logged;
             Turn::Synced
         } else if self.back < self.stable {
-            self.back = self.back.wrapping_add(1);
+            self.back = self.stable.min(self.back.saturating_add(8));
             Turn::Backed
         } else if self.recorded < self.back {
             self.recorded = self.back;
@@ -170,13 +170,13 @@ fn make_room(engine: &mut Cache, plain: &mut Plain) -> bool {
 }
 
 /// The next number of a row that is told by its seed.
-fn draw(seed: &mut u64) -> u64 {
+pub(super) fn draw(seed: &mut u64) -> u64 {
     *seed = seed.wrapping_mul(6_364_136_223_846_793_005).wrapping_add(1);
     *seed >> 33
 }
 
 /// Some sectors of a block.
-fn draw_part(seed: &mut u64, block: u8) -> Part {
+pub(super) fn draw_part(seed: &mut u64, block: u8) -> Part {
     let from = (draw(seed) % 8) as u8;
     let count = 1 + (draw(seed) % 8) as u8;
     Part {
@@ -240,25 +240,36 @@ fn play(alloc: Global, engine: &mut Cache, plain: &mut Plain, rounds: u32) -> Re
 
 /// Whether both agree on all blocks.
 fn agrees_on_all(engine: &mut Cache, plain: &Plain) -> bool {
-    (0..8).all(|block| agrees_on(engine, plain, block))
+    for block in 0..8 {
+        if !agrees_on(engine, plain, block) {
+            return false;
+        }
+    }
+    true
 }
 
-/// Whether a closed engine left what the list has.
-fn left(closed: &Closed<SteadyDevice, SteadyDevice>, plain: &Plain) -> bool {
-    let blocks = closed.backing.bytes().chunks_exact(8 * SECTOR_BYTES);
-    closed.fault.is_none()
-        && blocks
-            .zip(&plain.blocks)
-            .all(|(bytes, block)| are_filled(bytes, &block.fills))
+/// Whether these are the bytes of the backing device that the list has.
+fn left(bytes: &[u8], plain: &Plain) -> bool {
+    for (bytes, block) in bytes.chunks_exact(8 * SECTOR_BYTES).zip(&plain.blocks) {
+        if !are_filled(bytes, &block.fills) {
+            return false;
+        }
+    }
+    true
+}
+
+impl Play<SteadyDevice, SteadyDevice> for Plain {
+    fn carry_out(&mut self, alloc: Global, engine: &mut Cache) -> Result<(), Fail> {
+        play(alloc, engine, self, 301)
+    }
 }
 
 #[test]
 fn engine_and_plain_list_agree(rt: HostRuntime) -> Result<(), Fail> {
-    let alloc = rt.alloc();
-    let mut engine = cache_over(alloc, new_log(alloc)?, new_backing(alloc)?)?;
+    let log = new_log(rt.alloc())?;
+    let backing = new_backing(rt.alloc())?;
     let mut plain = Plain::new();
-    play(alloc, &mut engine, &mut plain, 301)?;
-    let closed = engine.close();
-    assert!(rt; left(&closed, &plain));
+    let closed = closed_after(rt.alloc(), log, backing, &mut plain)?;
+    assert!(rt; closed.fault.is_none() && left(closed.backing.bytes(), &plain));
     Ok(())
 }

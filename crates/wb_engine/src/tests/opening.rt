@@ -1,9 +1,9 @@
 //! Caches that are opened, or refused.
 use super::{
-    FIRST, LOG_SECTORS, SECTOR_BYTES, SECTORS, failing_backing, failing_log, former_bytes, log_of,
-    stopping_at,
+    FIRST, LOG_SECTORS, SECTOR_BYTES, SECTORS, begun, failing_backing, failing_log, former_bytes,
+    log_of, stopping_at,
 };
-use crate::{Engine, OpenCause};
+use crate::OpenCause;
 use std::alloc::Global;
 use std::process::Abort;
 use std::test::Fail;
@@ -13,8 +13,8 @@ use wb_super::SuperRefused;
 /// The record with which a cache over this log is opened, or why it is refused. The backing device has so many sectors.
 fn opened<L: Device>(alloc: Global, log: L, sectors: u32) -> Result<Result<u64, OpenCause>, Fail> {
     let backing = SteadyDevice::of(former_bytes(alloc, sectors)?);
-    Ok(match Engine::open(alloc, log, backing) {
-        Ok(engine) => Ok(engine.first()),
+    Ok(match begun(alloc, log, backing) {
+        Ok((first, _log, _backing)) => Ok(first),
         Err(stop) => Err(stop.cause),
     })
 }
@@ -124,7 +124,7 @@ fn refused(
 ) -> Result<Option<(OpenCause, u64, u64)>, Fail> {
     let log = failing_log(alloc, log_call)?;
     let backing = failing_backing(alloc, backing_call)?;
-    Ok(match Engine::open(alloc, log, backing) {
+    Ok(match begun(alloc, log, backing) {
         Ok(_) => None,
         Err(stop) => Some((stop.cause, stop.log.calls(), stop.backing.calls())),
     })
@@ -145,7 +145,7 @@ fn refused_before_it_fails(alloc: Global) -> Result<Option<(OpenCause, u64)>, Fa
     let bytes = log_with(alloc, &[7, 6, 13, 12])?.into_bytes();
     let log = MemoryDevice::of(alloc, bytes, stopping_at(alloc, 6))?;
     let backing = SteadyDevice::of(former_bytes(alloc, SECTORS)?);
-    Ok(match Engine::open(alloc, log, backing) {
+    Ok(match begun(alloc, log, backing) {
         Ok(_) => None,
         Err(stop) => Some((stop.cause, stop.log.calls())),
     })

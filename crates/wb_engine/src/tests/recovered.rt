@@ -1,12 +1,11 @@
 //! Caches that are opened over a log with segments behind its record.
-use super::slots::{Cache, OVER_FORMER, Play, closed_after, has_recorded, write_in_two_segments};
+use super::slots::{Cache, Course, OVER_FORMER, has_recorded, write_in_two_segments};
 use super::{
-    FORMER, NOWHERE, SECTOR_BYTES, SECTORS, former_bytes, holds, new_backing, new_log, put,
-    reads_as, spots_of, turn,
+    NOWHERE, SECTOR_BYTES, SECTORS, are_filled, begun, closed_after, former_bytes, former_fills,
+    holds, new_backing, new_log, put, reads_as, row_holds, spots_of, turn,
 };
-use crate::{Engine, OpenCause, OpenStop, Turn};
+use crate::{OpenCause, OpenStop, Turn};
 use std::alloc::{AllocError, Global};
-use std::process::Abort;
 use std::test::Fail;
 use wb_device::{Device, FaultPlan, MemoryDevice, PlannedFault, SteadyDevice};
 use wb_geometry::{Entry, Which};
@@ -28,8 +27,9 @@ pub(super) fn leave_two(alloc: Global, engine: &mut Cache) -> Result<(), Fail> {
 
 /// A log that has two segments behind its record, as a crash leaves it before they are recorded.
 fn left_log(alloc: Global) -> Result<SteadyDevice, Fail> {
-    let closed = closed_after(alloc, new_log(alloc)?, new_backing(alloc)?, Play::LeaveTwo)?;
-    let mut log = closed.log;
+    let log = new_log(alloc)?;
+    let backing = new_backing(alloc)?;
+    let mut log = closed_after(alloc, log, backing, &mut Course::LeaveTwo)?.log;
     if log.sectors() >= 2048 {
         write_record(&mut log, BEFORE)?;
     }
@@ -48,20 +48,16 @@ fn left_with(alloc: Global, id: u64) -> Result<Vec<u8>, Fail> {
     Ok(log.into_bytes())
 }
 
-/// The byte that fills a sector of the backing device once both segments are put.
-fn fill_of(sector: usize) -> u8 {
-    match sector {
-        0 | 1 => 0x01,
-        2 | 3 => 0x02,
-        _ => FORMER.wrapping_add((sector % 256) as u8),
-    }
+/// The bytes that fill the sectors of the backing device once both segments are put.
+fn put_fills() -> [u8; 64] {
+    let mut fills = former_fills();
+    fills[..4].copy_from_slice(&OVER_FORMER[..4]);
+    fills
 }
 
 /// Whether a backing device has both segments, and nothing else is changed.
 fn are_put(bytes: &[u8]) -> bool {
-    bytes.len() == SECTORS as usize * SECTOR_BYTES
-        && bytes.chunks_exact(SECTOR_BYTES).enumerate().all(|(sector, bytes)| bytes
-            == [fill_of(sector); SECTOR_BYTES].as_slice())
+    bytes.len() == SECTORS as usize * SECTOR_BYTES && are_filled(bytes, &put_fills())
 }
 
 /// Whether the numbers are those of a session that begins behind all slots.
@@ -95,7 +91,7 @@ pub(super) fn see_recovered(engine: &mut Cache) -> Result<(), Fail> {
 fn what_the_log_has_is_put_when_it_is_opened(rt: HostRuntime) -> Result<(), Fail> {
     let log = left_log(rt.alloc())?;
     let backing = new_backing(rt.alloc())?;
-    let mut closed = closed_after(rt.alloc(), log, backing, Play::SeeRecovered)?;
+    let mut closed = closed_after(rt.alloc(), log, backing, &mut Course::SeeRecovered)?;
     assert!(rt; has_recorded(&mut closed, BEHIND));
     assert!(rt; are_put(closed.backing.bytes()));
     Ok(())
@@ -105,7 +101,7 @@ fn what_the_log_has_is_put_when_it_is_opened(rt: HostRuntime) -> Result<(), Fail
 fn an_id_at_the_record_and_the_slots_is_no_stray(rt: HostRuntime) -> Result<(), Fail> {
     let log = SteadyDevice::of(left_with(rt.alloc(), BEHIND)?);
     let backing = new_backing(rt.alloc())?;
-    let mut closed = closed_after(rt.alloc(), log, backing, Play::SeeRecovered)?;
+    let mut closed = closed_after(rt.alloc(), log, backing, &mut Course::SeeRecovered)?;
     assert!(rt; has_recorded(&mut closed, BEHIND));
     Ok(())
 }
@@ -128,7 +124,7 @@ fn refused_unchanged(alloc: Global, bytes: &[u8]) -> Result<Option<OpenCause>, F
     let former = former_bytes(alloc, SECTORS)?;
     let log = SteadyDevice::of(Vec::from_slice(alloc, bytes)?);
     let backing = SteadyDevice::of(Vec::from_slice(alloc, former.as_slice())?);
-    Ok(match Engine::open(alloc, log, backing) {
+    Ok(match begun(alloc, log, backing) {
         Ok(_) => None,
         Err(stop) => cause_over(&stop, bytes, former.as_slice()),
     })
@@ -207,10 +203,10 @@ fn device_of(
     MemoryDevice::of(alloc, bytes, FaultPlan { faults, stop: None })
 }
 
-/// The record with which a cache begins, where both segments are put.
-fn first_of(engine: &Engine<MemoryDevice, MemoryDevice>) -> Option<u64> {
-    if are_put(engine.backing.bytes()) {
-        Some(engine.first())
+/// This record, where both segments are put.
+fn where_put(first: u64, backing: &MemoryDevice) -> Option<u64> {
+    if are_put(backing.bytes()) {
+        Some(first)
     } else {
         None
     }
@@ -218,15 +214,15 @@ fn first_of(engine: &Engine<MemoryDevice, MemoryDevice>) -> Option<u64> {
 
 /// The record with which a cache over these devices is opened, where both segments are put.
 fn opened_at(alloc: Global, log: MemoryDevice, backing: MemoryDevice) -> Option<u64> {
-    match Engine::open(alloc, log, backing) {
-        Ok(engine) => first_of(&engine),
-        Err(_) => None,
+    match begun(alloc, log, backing) {
+        Ok((first, _log, backing)) => where_put(first, &backing),
+        Err(_stop) => None,
     }
 }
 
 /// What comes of an opening over these devices, where it is stopped.
 fn answer_of(alloc: Global, log: MemoryDevice, backing: MemoryDevice) -> Option<Told> {
-    match Engine::open(alloc, log, backing) {
+    match begun(alloc, log, backing) {
         Ok(_) => None,
         Err(stop) => Some(Told {
             cause: stop.cause,
@@ -248,11 +244,6 @@ fn is_row(alloc: Global, bytes: &[u8], row: &Row) -> Result<bool, Fail> {
         then: Some(*then),
     };
     Ok(answer_of(alloc, log, backing) == Some(want))
-}
-
-/// The row holds.
-fn row_holds(rt: &impl Abort, holds: bool, at: usize) {
-    assert!(rt; holds, "row {at}");
 }
 
 #[test]

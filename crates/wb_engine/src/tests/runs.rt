@@ -1,7 +1,8 @@
 //! Sectors that stand next to each other are read by one call.
 use super::calls::{Listed, counts_of, listed, was_called};
 use super::{
-    LOG_SECTORS, SECTOR_BYTES, cache_over, former_bytes, holds, reads_as, turn, write, write_third,
+    LOG_SECTORS, Play, SECTOR_BYTES, closed_after, former_bytes, holds, reads_as, reads_sector,
+    turn, write, write_third,
 };
 use crate::{Closed, Engine, Turn};
 use std::alloc::Global;
@@ -25,11 +26,7 @@ fn reads_front(engine: &mut Engine<Listed, Listed>, into: &mut [u8]) -> bool {
 /// Whether each of these sectors, which are the first, is read alone as the same.
 fn reads_each(engine: &mut Engine<Listed, Listed>, bytes: &[u8]) -> bool {
     for (sector, want) in bytes.chunks_exact(SECTOR_BYTES).enumerate() {
-        if sector as u64 >= engine.geometry().backing_sectors {
-            return false;
-        }
-        let mut found = [0; SECTOR_BYTES];
-        if engine.read(sector as u64, &mut found).is_err() || want != found.as_slice() {
+        if !reads_sector(engine, sector as u64, want) {
             return false;
         }
     }
@@ -73,14 +70,32 @@ fn count_runs(alloc: Global, engine: &mut Engine<Listed, Listed>) -> Result<(), 
     )
 }
 
-/// What closing leaves of a cache over a wide backing device, of which the reads were counted.
-fn closed_after_reads(alloc: Global) -> Result<Closed<Listed, Listed>, Fail> {
+/// The reads of neighbouring sectors.
+#[derive(Drop)]
+struct Runs;
+
+impl Play<Listed, Listed> for Runs {
+    fn carry_out(
+        &mut self,
+        alloc: Global,
+        engine: &mut Engine<Listed, Listed>,
+    ) -> Result<(), Fail> {
+        count_runs(alloc, engine)
+    }
+}
+
+/// A log that is formatted for a wide backing device.
+fn wide_log(alloc: Global) -> Result<SteadyDevice, Fail> {
     let mut log = SteadyDevice::of(vec![in alloc; 0; LOG_SECTORS as usize * SECTOR_BYTES]?);
     format(&mut log, &Geometry::new(5, 4, 2, WIDE.into())?)?;
+    Ok(log)
+}
+
+/// What closing leaves of a cache over a wide backing device, of which the reads were counted.
+fn closed_after_reads(alloc: Global) -> Result<Closed<Listed, Listed>, Fail> {
+    let log = listed(alloc, wide_log(alloc)?)?;
     let backing = listed(alloc, SteadyDevice::of(former_bytes(alloc, WIDE)?))?;
-    let mut engine = cache_over(alloc, listed(alloc, log)?, backing)?;
-    count_runs(alloc, &mut engine)?;
-    Ok(engine.close())
+    closed_after(alloc, log, backing, &mut Runs)
 }
 
 #[test]

@@ -1,9 +1,10 @@
 //! Entries are made stable: with the calls that it takes, and with a device that fails at each of them.
 use super::calls::{Counts, Listed, counts_of, listed, was_called};
 use super::faults::write_all;
-use super::{cache_over, failing_backing, failing_log, holds, new_backing, new_log};
+use super::{Play, closed_after, failing_backing, failing_log, holds, new_backing, new_log};
 use crate::{Closed, Engine};
 use std::alloc::Global;
+use std::process::Abort;
 use std::test::Fail;
 use wb_device::Device;
 use wb_geometry::Which;
@@ -48,8 +49,8 @@ fn count_one_sync(alloc: Global, engine: &mut Engine<Listed, Listed>) -> Result<
     )
 }
 
-/// The fifth segment waits for a slot: the four before it are written back, by three reads, three writes and a sync each, and
-/// recorded. Then it is logged, and synced.
+/// The fifth segment waits for a slot: the four before it are written back, by three reads each, a write for each of the eight
+/// blocks that they have, and one sync, and recorded. Then it is logged, and synced.
 fn count_for_a_slot(alloc: Global, engine: &mut Engine<Listed, Listed>) -> Result<(), Fail> {
     write_all(alloc, engine, &[6, 7, 0, 1, 2, 3])?;
     holds(settles(engine, 12, 12), "four segments aren't stable")?;
@@ -60,23 +61,36 @@ fn count_for_a_slot(alloc: Global, engine: &mut Engine<Listed, Listed>) -> Resul
     write_all(alloc, engine, &[4, 5, 6])?;
     holds(settles(engine, 15, 15), "five segments aren't stable")?;
     holds(
-        was_called(engine, (19, 7, 6), (0, 12, 6)),
+        was_called(engine, (19, 7, 6), (0, 8, 3)),
         "other calls for a slot",
     )
 }
 
-/// What closing leaves once both were done in turn, over new devices.
+/// Both, one after the other.
+#[derive(Drop)]
+struct Both;
+
+impl Play<Listed, Listed> for Both {
+    fn carry_out(
+        &mut self,
+        alloc: Global,
+        engine: &mut Engine<Listed, Listed>,
+    ) -> Result<(), Fail> {
+        count_one_sync(alloc, engine)?;
+        count_for_a_slot(alloc, engine)
+    }
+}
+
+/// What closing leaves once both were done, over new devices.
 fn closed_after_both(alloc: Global) -> Result<Closed<Listed, Listed>, Fail> {
     let log = listed(alloc, new_log(alloc)?)?;
-    let mut engine = cache_over(alloc, log, listed(alloc, new_backing(alloc)?)?)?;
-    count_one_sync(alloc, &mut engine)?;
-    count_for_a_slot(alloc, &mut engine)?;
-    Ok(engine.close())
+    let backing = listed(alloc, new_backing(alloc)?)?;
+    closed_after(alloc, log, backing, &mut Both)
 }
 
 /// What closing then did: the fifth segment is written back, and recorded.
 fn closed_well(closed: &Closed<Listed, Listed>) -> bool {
-    closed.fault.is_none() && counts_of(&closed.log, &closed.backing) == ((22, 8, 7), (0, 15, 7))
+    closed.fault.is_none() && counts_of(&closed.log, &closed.backing) == ((22, 8, 7), (0, 11, 4))
 }
 
 #[test]
@@ -93,34 +107,55 @@ const FLUSHES: [(&[u8], u64); 3] = [
     (&[4, 5, 6], 15),
 ];
 
-/// Makes these stable until a device fails, and says how many places are stable then, and by which device the engine is
-/// down.
-fn flush<L: Device, B: Device>(
-    alloc: Global,
-    engine: &mut Engine<L, B>,
-) -> Result<(u64, Option<Which>), Fail> {
-    for (blocks, place) in &FLUSHES {
-        write_all(alloc, engine, blocks)?;
-        let settled = settle(engine, *place);
-        let failed = engine.down().map(Err).unwrap_or(Ok(()));
-        holds(settled == Some(failed), "it answers otherwise")?;
-        if failed.is_err() {
-            break;
+/// What comes of making these stable: how many places are stable at the end, and by which device the engine is down.
+#[derive(Clone, Copy, PartialEq, Eq)]
+struct Flush {
+    stable: u64,
+    down: Option<Which>,
+}
+
+const NOT_YET: Flush = Flush {
+    stable: 0,
+    down: None,
+};
+
+/// Whether they are made stable, or else a device fails, by which the engine is down then.
+fn answers_well<L: Device, B: Device>(engine: &mut Engine<L, B>, place: u64) -> bool {
+    let settled = settle(engine, place);
+    settled == Some(engine.down().map(Err).unwrap_or(Ok(())))
+}
+
+impl<L: Device, B: Device> Play<L, B> for Flush {
+    /// Makes these stable until a device fails.
+    fn carry_out(&mut self, alloc: Global, engine: &mut Engine<L, B>) -> Result<(), Fail> {
+        for (blocks, place) in &FLUSHES {
+            if engine.down().is_none() {
+                write_all(alloc, engine, blocks)?;
+                holds(answers_well(engine, *place), "it answers otherwise")?;
+            }
         }
+        self.stable = engine.stable();
+        self.down = engine.down();
+        Ok(())
     }
-    Ok((engine.stable(), engine.down()))
 }
 
-/// What is stable where the log fails from this call on. To open it takes ten calls.
-fn flush_on_failing_log(alloc: Global, call: u64) -> Result<(u64, Option<Which>), Fail> {
-    let mut engine = cache_over(alloc, failing_log(alloc, call)?, new_backing(alloc)?)?;
-    flush(alloc, &mut engine)
+/// What comes of it where the log fails from this call on. To open it takes ten calls.
+fn flush_on_failing_log(alloc: Global, call: u64) -> Result<Flush, Fail> {
+    let log = failing_log(alloc, call)?;
+    let backing = new_backing(alloc)?;
+    let mut flush = NOT_YET;
+    closed_after(alloc, log, backing, &mut flush)?;
+    Ok(flush)
 }
 
-/// What is stable where the backing device fails from this call on. To open it takes two calls.
-fn flush_on_failing_backing(alloc: Global, call: u64) -> Result<(u64, Option<Which>), Fail> {
-    let mut engine = cache_over(alloc, new_log(alloc)?, failing_backing(alloc, call)?)?;
-    flush(alloc, &mut engine)
+/// What comes of it where the backing device fails from this call on. To open it takes two calls.
+fn flush_on_failing_backing(alloc: Global, call: u64) -> Result<Flush, Fail> {
+    let log = new_log(alloc)?;
+    let backing = failing_backing(alloc, call)?;
+    let mut flush = NOT_YET;
+    closed_after(alloc, log, backing, &mut flush)?;
+    Ok(flush)
 }
 
 /// How many places are stable where the log fails from this call on: two writes and a sync, the same again, then twelve
@@ -134,24 +169,27 @@ fn stable_at_log_call(call: u64) -> u64 {
     }
 }
 
+/// So many places are stable, and the engine is down by this device.
+fn is_flush(rt: &impl Abort, found: Flush, stable: u64, down: Option<Which>) {
+    assert!(rt; found == Flush { stable, down });
+}
+
 #[test]
 fn the_log_fails_at_each_call_of_a_flush(rt: HostRuntime) -> Result<(), Fail> {
     for call in 10..32 {
         let found = flush_on_failing_log(rt.alloc(), call)?;
-        assert!(rt; found == (stable_at_log_call(call), Some(Which::Log)));
+        is_flush(&rt, found, stable_at_log_call(call), Some(Which::Log));
     }
-    let found = flush_on_failing_log(rt.alloc(), 32)?;
-    assert!(rt; found == (15, None));
+    is_flush(&rt, flush_on_failing_log(rt.alloc(), 32)?, 15, None);
     Ok(())
 }
 
 #[test]
 fn the_backing_device_fails_at_each_call_of_a_flush(rt: HostRuntime) -> Result<(), Fail> {
-    for call in 2..18 {
+    for call in 2..11 {
         let found = flush_on_failing_backing(rt.alloc(), call)?;
-        assert!(rt; found == (12, Some(Which::Backing)));
+        is_flush(&rt, found, 12, Some(Which::Backing));
     }
-    let found = flush_on_failing_backing(rt.alloc(), 18)?;
-    assert!(rt; found == (15, None));
+    is_flush(&rt, flush_on_failing_backing(rt.alloc(), 11)?, 15, None);
     Ok(())
 }

@@ -1,8 +1,9 @@
 //! Where a sector is read from, and slots that are taken again.
 use super::recovered::{leave_two, see_recovered};
 use super::{
-    LOG_SECTORS, NOWHERE, SECTOR_BYTES, SECTORS, are_filled, cache_over, holds, log_of,
-    new_backing, new_log, put, reads_as, reads_third, spots_of, turn, write, write_third,
+    LOG_SECTORS, NOWHERE, Play, SECTOR_BYTES, SECTORS, are_filled, closed_after, holds, log_of,
+    new_backing, new_log, put, reads_as, reads_third, reads_thirds, spots_of, turn, write,
+    write_third,
 };
 use crate::{Closed, Engine, Turn};
 use std::alloc::Global;
@@ -51,11 +52,8 @@ fn reads_from_three(engine: &mut Cache, fills: &[u8; 8]) -> Result<(), Fail> {
 }
 
 /// What turns do once all four slots are taken and a fifth segment waits.
-const TURNS: [Turn; 10] = [
+const TURNS: [Turn; 7] = [
     Turn::Synced,
-    Turn::Backed,
-    Turn::Backed,
-    Turn::Backed,
     Turn::Backed,
     Turn::Recorded,
     Turn::Logged,
@@ -87,8 +85,7 @@ fn take_all_slots(alloc: Global, engine: &mut Cache) -> Result<(), Fail> {
 fn turn_to_the_end(engine: &mut Cache) -> Result<(), Fail> {
     for want in &TURNS {
         holds(turn(engine) == Some(Ok(*want)), "a turn did something else")?;
-        let all = (0..5).all(|block| reads_third(engine, block));
-        holds(all, "a block is read as something else")?;
+        holds(reads_thirds(engine, 5), "a block is read as another")?;
     }
     holds(turn(engine) == Some(Ok(Turn::Idle)), "it isn't idle")
 }
@@ -102,7 +99,7 @@ fn wrap(alloc: Global, engine: &mut Cache) -> Result<(), Fail> {
     }
     let done = write_third(alloc, engine, 2)?;
     holds(done, "there was no room for the third")?;
-    for want in [Turn::Synced, Turn::Backed, Turn::Backed, Turn::Recorded] {
+    for want in [Turn::Synced, Turn::Backed, Turn::Recorded] {
         holds(!engine.can_log() && engine.recorded() == 2, "too early")?;
         holds(turn(engine) == Some(Ok(want)), "a turn did something else")?;
     }
@@ -114,9 +111,9 @@ fn wrap(alloc: Global, engine: &mut Cache) -> Result<(), Fail> {
     )
 }
 
-/// What is done with a cache before it is closed.
+/// The course of a session.
 #[derive(Clone, Copy)]
-pub(super) enum Play {
+pub(super) enum Course {
     ReadFromThree,
     ReadOverSame,
     TakeAllSlots,
@@ -125,50 +122,41 @@ pub(super) enum Play {
     SeeRecovered,
 }
 
-/// Does it.
-fn carry_out(alloc: Global, engine: &mut Cache, play: Play) -> Result<(), Fail> {
-    match play {
-        Play::ReadFromThree => {
-            write_in_two_segments(alloc, engine)?;
-            reads_from_three(engine, &OVER_FORMER)
+impl Play<SteadyDevice, SteadyDevice> for Course {
+    fn carry_out(&mut self, alloc: Global, engine: &mut Cache) -> Result<(), Fail> {
+        match *self {
+            Course::ReadFromThree => {
+                write_in_two_segments(alloc, engine)?;
+                reads_from_three(engine, &OVER_FORMER)
+            }
+            Course::ReadOverSame => {
+                write_in_two_segments(alloc, engine)?;
+                reads_from_three(engine, &OVER_SAME)
+            }
+            Course::TakeAllSlots => {
+                take_all_slots(alloc, engine)?;
+                turn_to_the_end(engine)
+            }
+            Course::Wrap => wrap(alloc, engine),
+            Course::LeaveTwo => leave_two(alloc, engine),
+            Course::SeeRecovered => see_recovered(engine),
         }
-        Play::ReadOverSame => {
-            write_in_two_segments(alloc, engine)?;
-            reads_from_three(engine, &OVER_SAME)
-        }
-        Play::TakeAllSlots => {
-            take_all_slots(alloc, engine)?;
-            turn_to_the_end(engine)
-        }
-        Play::Wrap => wrap(alloc, engine),
-        Play::LeaveTwo => leave_two(alloc, engine),
-        Play::SeeRecovered => see_recovered(engine),
     }
-}
-
-/// What closing leaves of a cache over these devices, with which this was done before.
-pub(super) fn closed_after(
-    alloc: Global,
-    log: SteadyDevice,
-    backing: SteadyDevice,
-    done: Play,
-) -> Result<Closed<SteadyDevice, SteadyDevice>, Fail> {
-    let mut engine = cache_over(alloc, log, backing)?;
-    carry_out(alloc, &mut engine, done)?;
-    Ok(engine.close())
 }
 
 /// Whether a log has this record, behind a cache that was closed without a fault.
 pub(super) fn has_recorded(closed: &mut Closed<SteadyDevice, SteadyDevice>, recorded: u64) -> bool {
-    closed.fault.is_none()
-        && read_super(&mut closed.log).is_ok_and(|found| found.recorded == recorded)
+    match read_super(&mut closed.log) {
+        Ok(found) => closed.fault.is_none() && found.recorded == recorded,
+        Err(_) => false,
+    }
 }
 
 #[test]
 fn a_block_is_read_from_wherever_it_stands(rt: HostRuntime) -> Result<(), Fail> {
     let log = log_of(rt.alloc(), LOG_SECTORS, Some(0))?;
     let backing = new_backing(rt.alloc())?;
-    let mut closed = closed_after(rt.alloc(), log, backing, Play::ReadFromThree)?;
+    let mut closed = closed_after(rt.alloc(), log, backing, &mut Course::ReadFromThree)?;
     assert!(rt; has_recorded(&mut closed, 6));
     assert!(rt; are_filled(closed.backing.bytes(), &OVER_FORMER));
     Ok(())
@@ -183,7 +171,7 @@ fn same_backing(alloc: Global) -> Result<SteadyDevice, Fail> {
 fn the_ids_of_a_new_log_begin_behind_its_slots(rt: HostRuntime) -> Result<(), Fail> {
     let log = log_of(rt.alloc(), LOG_SECTORS, Some(0))?;
     let backing = same_backing(rt.alloc())?;
-    let mut closed = closed_after(rt.alloc(), log, backing, Play::ReadOverSame)?;
+    let mut closed = closed_after(rt.alloc(), log, backing, &mut Course::ReadOverSame)?;
     assert!(rt; has_recorded(&mut closed, 6));
     assert!(rt; are_filled(closed.backing.bytes(), &OVER_SAME));
     Ok(())
@@ -193,7 +181,7 @@ fn the_ids_of_a_new_log_begin_behind_its_slots(rt: HostRuntime) -> Result<(), Fa
 fn a_slot_is_taken_again_once_it_is_recorded(rt: HostRuntime) -> Result<(), Fail> {
     let log = new_log(rt.alloc())?;
     let backing = new_backing(rt.alloc())?;
-    let mut closed = closed_after(rt.alloc(), log, backing, Play::TakeAllSlots)?;
+    let mut closed = closed_after(rt.alloc(), log, backing, &mut Course::TakeAllSlots)?;
     assert!(rt; has_recorded(&mut closed, 16));
     Ok(())
 }
@@ -203,7 +191,7 @@ fn three_segments_share_two_slots(rt: HostRuntime) -> Result<(), Fail> {
     let mut log = SteadyDevice::of(vec![in rt.alloc(); 0; 2080 * 512]?);
     format(&mut log, &Geometry::new(4, 2, 2, 64)?)?;
     let backing = new_backing(rt.alloc())?;
-    let mut closed = closed_after(rt.alloc(), log, backing, Play::Wrap)?;
+    let mut closed = closed_after(rt.alloc(), log, backing, &mut Course::Wrap)?;
     assert!(rt; has_recorded(&mut closed, 5));
     Ok(())
 }
