@@ -76,9 +76,9 @@ workload-kept seed count region client some below =
     let own = get_or-map-range_with_len of 0 workload_clients client client [] below (zero-add client) in
     subst (All (KeepsTo (client * quarter) quarter)) (sym own)
     (All-map (KeepsTo (client * quarter) quarter) (λ index. drawn_request quarter client index (state_after seed client (index + 1))) (range_with_len 0 count)
-        (λ k d at.
-        let index = get_or (range_with_len 0 count) k d in
-        drawn_kept quarter client index (state_after seed client (index + 1)) (omega arith)))
+    (λ k d at.
+    let index = get_or (range_with_len 0 count) k d in
+    drawn_kept quarter client index (state_after seed client (index + 1)) (omega arith)))
 
 -- where all are, none hears a note, and none shows a sector
 none_heard : (sectors client teller : ℕ) (requests : List Request) → All (IsDrawn sectors client) requests → heard_of teller requests ≡ 0
