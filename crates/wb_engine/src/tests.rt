@@ -164,10 +164,9 @@ fn filled(alloc: Global, part: &Part, fill: u8) -> Result<Box<Block>, AllocError
 
 /// A write of these sectors, all filled with this byte.
 fn write_of(alloc: Global, part: &Part, fill: u8) -> Result<Entry, Fail> {
-    holds(
-        part.count != 0 && part.from < 8 && part.count <= 8 - part.from,
-        "no part of a block",
-    )?;
+    if part.count == 0 || part.from >= 8 || part.count > 8 - part.from {
+        return Err(Fail::new("no part of a block"));
+    }
     Ok(Entry::Write {
         client: 0,
         block: part.block,

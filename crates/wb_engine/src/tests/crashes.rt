@@ -128,19 +128,35 @@ fn fail_each(alloc: Global, session: Session) -> Result<(), Fail> {
     Ok(())
 }
 
-/// The sessions. In the later ones more is logged than is stable, and in the last one the batch goes over the last slot to the
-/// first.
-const SESSIONS: [(u8, u8, u8); 3] = [(0, 8, 8), (0, 5, 8), (7, 15, 18)];
+#[test]
+fn a_crash_in_a_full_batch_loses_nothing_stable(rt: HostRuntime) -> Result<(), Fail> {
+    let session = Session {
+        recorded: 0,
+        stable: 8,
+        logged: 8,
+    };
+    fail_each(rt.alloc(), session)
+}
 
 #[test]
-fn a_crash_in_a_batch_loses_nothing_stable(rt: HostRuntime) -> Result<(), Fail> {
-    for (recorded, stable, logged) in &SESSIONS {
-        let session = Session {
-            recorded: *recorded,
-            stable: *stable,
-            logged: *logged,
-        };
-        fail_each(rt.alloc(), session)?;
-    }
-    Ok(())
+fn a_crash_in_a_batch_with_more_in_the_log_loses_nothing_stable(
+    rt: HostRuntime,
+) -> Result<(), Fail> {
+    let session = Session {
+        recorded: 0,
+        stable: 5,
+        logged: 8,
+    };
+    fail_each(rt.alloc(), session)
+}
+
+/// The batch goes over the last slot to the first.
+#[test]
+fn a_crash_in_a_batch_of_a_wrapped_log_loses_nothing_stable(rt: HostRuntime) -> Result<(), Fail> {
+    let session = Session {
+        recorded: 7,
+        stable: 15,
+        logged: 18,
+    };
+    fail_each(rt.alloc(), session)
 }
