@@ -1,5 +1,5 @@
 -- A run of the program, as it is seen from outside.
-use Rattle.std.specs.Prelude.{ℕ, ◌≡◌, ◌⊎◌, ◌*◌, ◌/◌, ◌^◌, ◌+◌, List, [], take, min, Option, None, IfSome}
+use Rattle.std.specs.Prelude.{ℕ, ◌≡◌, ◌⊎◌, ◌*◌, ◌/◌, ◌^◌, ◌+◌, List, [], take, min, Option, IfSome}
 use Rattle.std.specs.Io.KnownBytes.{Appends}
 use Rattle.wb_geometry.specs.Device.{State, Rose, IsUncalled}
 use Rattle.wb_device.specs.Streams.{AppendsFront}
@@ -53,10 +53,6 @@ run_of source sink log_before log_after backing_before backing_after status tran
   transcripts = transcripts;
   places = places;
 }
-
--- a source that a function isn't lent
-abbrev pub no_source : Lent
-no_source = lent None None 0 0
 
 abbrev pub LogHasFailed : Run → Type 0
 LogHasFailed run = Rose run.before.log.faults run.after.log.faults
