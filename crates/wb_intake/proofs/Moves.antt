@@ -1,6 +1,6 @@
 -- Each move of a seat keeps the rule of the table.
 use Rattle.std.proofs.Common.{◌≡◌, ◌≢◌, ◌⊎◌, ℕ, zero, suc, ◌+◌, ◌-◌, ◌%◌, ◌<◌, ◌≤◌, max, eqb, List, [], ◌∷◌, length, replicate, get_or, set, sym, ap, refl, ◌∙◌, subst, inl, inr, arith}
-use Rattle.std.specs.List.{Contains}
+use Rattle.std.specs.List.{All, Contains}
 use Rattle.std.specs.Prelude.{Option, Some, None, IfSome}
 use Rattle.std.proofs.lemmas.List.{set-get_or}
 use Rattle.std.proofs.lemmas.Bool.{cases_eq}
@@ -19,7 +19,8 @@ use Rattle.wb_steps.specs.declared.shape.Shape.{Shape}
 use Rattle.wb_steps.specs.declared.view.View.{View}
 use Rattle.wb_steps.specs.declared.view.Role.{Role}
 use Rattle.wb_steps.specs.declared.view.Role.TheVariants.{Owner, Copy, Drain, Spent}
-use Rattle.wb_steps.proofs.Lists.{prefix_trans, prefix_longer, placed-append}
+use Rattle.std.proofs.lemmas.List.Elements.{All-contains}
+use Rattle.wb_steps.proofs.Lists.{prefix_trans, prefix_longer, prefix_both, placed-append}
 use Rattle.wb_steps.proofs.Bounds.{few_places}
 use Rattle.wb_steps.proofs.Appends.{claimed_law, bumped_law}
 use Rattle.wb_steps.proofs.Fills.{filled_law}
@@ -28,7 +29,7 @@ use Rattle.wb_steps.proofs.Numbers.{cursor_seen, limit_seen, stable_seen, fault_
 use Rattle.wb_steps.proofs.Copies.{shown_law, told_law, heard_law, founded_law, roles_apart}
 use Rattle.wb_intake.specs.declared.sight.Sight.{Sight}
 use Rattle.wb_intake.specs.declared.sight.Meeting.{Meeting}
-use Rattle.wb_intake.specs.Sights.{IsBehind, HasMet, NamesRightly, counted, Holds}
+use Rattle.wb_intake.specs.Sights.{IsBehind, HasMet, AreAlike, NamesRightly, counted, Holds}
 use Rattle.wb_intake.specs.Plays.{Sat, IsUp, with_view, with_load, with_cell_load, sees, claims, bumps, first_unfilled, enters, fills, takes_out, gives_back, publishes, tells, note, shown, hears, meets, gone, counting, owner}
 use Rattle.wb_intake.proofs.Results.{placed_from}
 use Rattle.wb_intake.proofs.Lifted.{S, met_still, lift, lift_split, lift_join}
@@ -36,6 +37,11 @@ use Rattle.wb_intake.proofs.Lifted.{S, met_still, lift, lift_split, lift_join}
 -- a word that becomes what it was
 same_word : (k : Shape) (s : Intake) (i : ℕ) (views : List View) → IsLawful k record { words = s.words; homes = s.homes; views = views } → IsLawful k record { words = set s.words i (get_or s.words i 0); homes = s.homes; views = views }
 same_word k s i views law = subst (λ (ws : List ℕ). IsLawful k record { words = ws; homes = s.homes; views = views }) (sym (set-get_or s.words i 0)) law
+
+-- notes that are beginnings of what their clients told are alike
+alike : (told : ℕ → List ℕ) (heard : List (ℕ × List ℕ)) → All (λ h. IsPrefix h.1 (told h.0)) heard → AreAlike heard
+alike told heard all client fewer more has had few =
+    prefix_both more fewer (told client) (All-contains (λ (h : ℕ × List ℕ). IsPrefix h.1 (told h.0)) heard (client, more) all had) (All-contains (λ (h : ℕ × List ℕ). IsPrefix h.1 (told h.0)) heard (client, fewer) all has) few
 
 -- an owner of a state that keeps the rule names places rightly
 names : (k : Shape) (s : Intake) (law : IsLawful k s) (id : ℕ) (v : View) → get_elem? s.views id ≡ some v → NamesRightly v
@@ -48,6 +54,7 @@ names k s law id v at role =
         placed_from v.client (0 + length v.known) (length v.known) p.0 (omega arith),
       ),
       o.below,
+      alike law.truth.told v.heard o.seen.heard,
     )
 
 -- a look at the cursor, the limit, the stable number or the fault

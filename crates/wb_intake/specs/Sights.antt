@@ -1,5 +1,6 @@
 -- What a seat knows beside its view, and the rule of the table.
 use Rattle.std.specs.Prelude.{ℕ, ◌≡◌, ◌+◌, ◌-◌, ◌<◌, ◌≤◌, zero, suc, List, [], ◌∷◌, ◌++◌, length, map, All, Option, Some, None}
+use Rattle.std.specs.List.{Contains}
 use mathlib.Core.Option.{some}
 use lib.ListN.{get_elem?}
 use Rattle.atomic_table.specs.Table.{State}
@@ -35,9 +36,13 @@ HasMet x = (m : Meeting) → x.met ≡ Some m → IsBehind m.drain m.pass
 abbrev pub IsLegal : View → Type 0
 IsLegal v = (later : List (ℕ × HistoryEntry)) × (v.mine ≡ placed v.client 0 v.known ++ later) × All (λ m. length v.known ≤ m.0) later
 
--- what an owner names is legal, and stands below the cursor that it has seen
+-- of two notes of one client that were heard, the later has all that the client told up to the other
+abbrev pub AreAlike : List (ℕ × List ℕ) → Type 0
+AreAlike heard = (client : ℕ) (fewer more : List ℕ) → Contains heard (client, fewer) → Contains heard (client, more) → length fewer ≤ length more → IsPrefix fewer more
+
+-- what an owner names is legal, and stands below the cursor that it has seen; and the notes that it heard are alike
 abbrev pub NamesRightly : View → Type 0
-NamesRightly v = v.role ≡ Owner → IsLegal v × All (λ m. m.0 < v.seen.cursor) v.mine
+NamesRightly v = v.role ≡ Owner → IsLegal v × All (λ m. m.0 < v.seen.cursor) v.mine × AreAlike v.heard
 
 -- the rule of the table is that of the machine, and that each seat had all of whom it met
 abbrev pub Holds : Shape → State (Option HistoryEntry) Sight → Type 0

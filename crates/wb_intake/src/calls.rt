@@ -6,7 +6,7 @@ ghost use Rattle.wb_steps.specs.Faults.{parts_of, IsPartwiseAtMost};
 ghost use Rattle.wb_steps.specs.Views.{telling, note_of, copy, hearing, filling};
 ghost use Rattle.wb_steps.specs.Rule as rule;
 ghost use Rattle.wb_steps.specs.Steps.{seeing, IsRoundedUp};
-ghost use Rattle.wb_intake.specs.Sights.{IsLoaded, IsCellLoaded, IsBehind, IsLegal};
+ghost use Rattle.wb_intake.specs.Sights.{IsLoaded, IsCellLoaded, IsBehind, IsLegal, AreAlike};
 ghost use Rattle.wb_intake.specs.Belongs.{Saw, HasNamed, HasClaimed, HasLearnt, HasDrained, IsCause, IsWaiting, IsOwed, HasBumped};
 ghost use Rattle.wb_intake.specs.Passes.{name_of, pass_name, drain_name, note_name, numbers_of, client_of_pass, place_of, block_of, view_of, loads_of, drain_view, drain_loads, note_view};
 
@@ -179,7 +179,8 @@ impl Intake {
     }
 
     /// Looks at the cursor, the limit, the stable number and the fault, by one load each. It also shows that what the pass
-    /// names is what its client has in what the pass knows, and places behind that, all below the cursor.
+    /// names is what its client has in what the pass knows, and places behind that, all below the cursor; and that of two notes
+    /// of one client that the pass heard the later has all that was told up to the other.
     pub fn look(&self, pass: &mut Pass) -> Look
         requires own { pass_name pass.old ≡ name_of self.now }
         ensures own { (pass_name pass.new ≡ pass_name pass.old) × (client_of_pass pass.new ≡ client_of_pass pass.old) }
@@ -187,6 +188,7 @@ impl Intake {
         ensures others { (loads_of pass.new).cell ≡ (loads_of pass.old).cell }
         ensures legal { IsLegal (view_of pass.new) }
         ensures below { All (λ m. m.0 < result.cursor) (view_of pass.new).mine }
+        ensures alike { AreAlike (view_of pass.new).heard }
         ensures cursor { IsLoaded (loads_of pass.old).cursor (loads_of pass.new).cursor result.cursor × ((view_of pass.new).seen.cursor ≡ result.cursor) }
         ensures limit { IsLoaded (loads_of pass.old).limit (loads_of pass.new).limit result.limit × ((view_of pass.new).seen.limit ≡ result.limit) }
         ensures stable { IsLoaded (loads_of pass.old).stable (loads_of pass.new).stable result.stable × ((view_of pass.new).seen.stable ≡ result.stable) }

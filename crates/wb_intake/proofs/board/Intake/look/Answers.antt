@@ -1,3 +1,5 @@
+use Rattle.std.proofs.Common.{subst, sym}
+use Rattle.wb_intake.specs.Sights.{AreAlike}
 use Rattle.wb_intake.proofs.Results.{legal_still, below_still}
 use Rattle.wb_intake.proofs.board.Intake.look.Goals as goal
 
@@ -6,3 +8,6 @@ returns-clause-legal c = legal_still _ _ c.look_around.ensures.saw (c.look_aroun
 
 pub returns-clause-below : goal.returns-clause-below
 returns-clause-below c = below_still _ _ _ c.look_around.ensures.saw c.look_around.ensures.cursor.1 (c.look_around.ensures.names c.args.pass.now.owns.0).1
+
+pub returns-clause-alike : goal.returns-clause-alike
+returns-clause-alike c = subst AreAlike (sym c.look_around.ensures.saw.heard) (c.look_around.ensures.names c.args.pass.now.owns.0).2
