@@ -2,7 +2,7 @@
 use Rattle.std.proofs.Common.{◌≡◌, ◌≢◌, ◌⊎◌, ℕ, zero, suc, ◌+◌, ◌-◌, ◌%◌, ◌<◌, ◌≤◌, max, eqb, List, [], ◌∷◌, length, replicate, get_or, set, sym, ap, refl, ◌∙◌, subst, inl, inr, arith}
 use Rattle.std.specs.List.{All, Contains}
 use Rattle.std.specs.Prelude.{Option, Some, None, IfSome}
-use Rattle.std.proofs.lemmas.List.{set-get_or}
+use Rattle.std.proofs.lemmas.List.{set-get_or, get_or_append_left, length-append}
 use Rattle.std.proofs.lemmas.Bool.{cases_eq}
 use mathlib.Core.Option.{some, none}
 use mathlib.Core.Option as maybe
@@ -135,9 +135,13 @@ fills_as k n id me i new p j e more role has named is next holds = lift k n id m
       (λ z. (with_view me.0 (Rattle.wb_steps.specs.Views.filling me.0.view (sym before z)), Rattle.atomic_table.specs.Table.rest me.1)),
     ))
 
+-- a place that is named is below the limit that the drain knows
+below_limit : (k : Shape) (s : Intake) (law : IsLawful k s) (id : ℕ) (v : View) → get_elem? s.views id ≡ some v → v.role ≡ Drain → length v.known < length law.truth.log → length v.known < v.seen.limit
+below_limit k s law id v at role named = let o : Drains law.truth id v = subst (Fits law.truth id v) role (law.each_view id v at) in let below = law.sound.below in omega (arith, named, below, o.limit)
+
 -- the drain looks at the word of the next place
-pub takes_as : (k : Shape) → IsShape k → (n id : ℕ) (me : Sat) (i : ℕ) → me.0.view.role ≡ Drain → me.0.view.held ≡ None → n ≡ cells k → i ≡ cell_word k (length me.0.view.known) → Allows (Holds k) n id me i (λ y. y) (takes_out (step n i 0 0 none) me)
-takes_as k shape n id me i role bare size is = lift k n id me i (λ y. y) (takes_out (step n i 0 0 none) me) (λ s law had wide at fits.
+pub takes_as : (k : Shape) → IsShape k → (n id : ℕ) (me : Sat) (i : ℕ) → me.0.view.role ≡ Drain → me.0.view.held ≡ None → n ≡ cells k → i ≡ cell_word k (length me.0.view.known) → Allows (Holds k) n id me i (λ y. y) (takes_out k (step n i 0 0 none) me)
+takes_as k shape n id me i role bare size is = lift k n id me i (λ y. y) (takes_out k (step n i 0 0 none) me) (λ s law had wide at fits.
     let r : ℕ = get_or s.words i 0 in let v : View = me.0.view in let p : ℕ = length v.known in
     elim (cases_eq r (p + 1)) [
       | inl says ↦
@@ -148,7 +152,7 @@ takes_as k shape n id me i role bare size is = lift k n id me i (λ y. y) (takes
             f.2.2,
             refl,
             subst (λ (x : ℕ). IsLawful k record { words = set s.words x (get_or s.words x 0); homes = set s.homes (p % cells k) none; views = set s.views id (Rattle.wb_steps.specs.Views.taking v e) }) (sym is) (taken_law k s law id v e at role bare says' f.2.2),
-            ((λ _. (omega (arith, f.0, few), e, (λ z. (with_cell_load me.0 (Rattle.wb_steps.specs.Views.taking v e) i r, (p % sym size z, Some e) ∷ me.1)))), λ waits. absurd (waits says)),
+            ((λ _. (omega (arith, f.0, few), below_limit k s law id v at role f.0, e, law.sound.each_entry p e f.2.1, (λ z. (with_cell_load me.0 (Rattle.wb_steps.specs.Views.taking v e) i r, (p % sym size z, Some e) ∷ me.1)))), λ waits. absurd (waits says)),
           )
       | inr waits ↦ (with_cell_load me.0 v i r, keeps, tt, refl, same_word k s i (set s.views id v) (subst (λ (vs : List View). IsLawful k record { words = s.words; homes = s.homes; views = vs }) (sym (set_again s.views id v at)) law), ((λ says. absurd (waits says)), λ _. refl))
     ])
@@ -187,12 +191,19 @@ founds_as k id x role = lift_split k id x (counting x) (owner x) refl refl (λ s
 pub hears_as : (k : Shape) (id : ℕ) (x : Sight) (other : ℕ) (y : Sight) → (x.view.role ≡ Owner) ⊎ (x.view.role ≡ Drain) → y.view.role ≡ Copy → Joins (Holds k) id x other y (hears x y) gone
 hears_as k id x other y role copies = lift_join k id x other y (hears x y) gone refl (λ s law had at apart there. (heard_law k s law id x.view other y.view at role there apart copies, met_still x (hears x y) refl had))
 
+-- the first entries are of the clients that all are of
+all_before : (clients : ℕ) (front log : List HistoryEntry) → IsPrefix front log → All (λ e. client_of e < clients) log → All (λ e. client_of e < clients) front
+all_before clients front log p all i d inside = let long : length log ≡ length front + length p.0 = ap length p.1 ∙ length-append front p.0 in
+    subst (λ (e : HistoryEntry). client_of e < clients) (ap (λ (es : List HistoryEntry). get_or es i d) p.1 ∙ get_or_append_left front p.0 d i inside) (all i d (omega (arith, inside, long)))
+
 -- the drain has all that is in a copy
 behind : (k : Shape) (s : Intake) (law : IsLawful k s) (id : ℕ) (v : View) (other : ℕ) (w : View) → get_elem? s.views id ≡ some v → v.role ≡ Drain → get_elem? s.views other ≡ some w → w.role ≡ Copy → IsBehind v w
 behind k s law id v other w at role there copies =
     let o : Drains law.truth id v = subst (Fits law.truth id v) role (law.each_view id v at) in
     let c : HasSeen law.truth other w = (subst (Fits law.truth other w) copies (law.each_view other w there)).0 in record {
       known = subst (IsPrefix w.known) (sym o.known) c.known;
+      clients = subst (λ (es : List HistoryEntry). All (λ e. client_of e < v.client) es) (sym o.known)
+          (subst (λ (n : ℕ). All (λ e. client_of e < n) law.truth.drained) (sym o.clients) (all_before law.truth.clients law.truth.drained law.truth.log law.sound.behind law.sound.each_owner));
       limit = omega (arith, o.limit, c.limit);
       stable = omega (arith, o.stable, c.stable);
       fault = subst (IsPartwiseAtMost w.seen.fault) (sym o.fault) c.fault;
@@ -236,7 +247,7 @@ met_all d o y z w n role copy joined had up looked =
       ap (λ (x : Sight). x.loads) looked ∙ ap (λ (x : Sight). counted x.loads 0 n) is,
       omega (arith, cursor),
       omega (arith, cursor),
-      subst (λ (v : View). IsBehind v o.view) (sym same) (record { known = b.known; limit = b.limit; stable = b.stable; fault = b.fault }),
+      subst (λ (v : View). IsBehind v o.view) (sym same) (record { known = b.known; clients = b.clients; limit = b.limit; stable = b.stable; fault = b.fault }),
     )
 
 -- an owner that has taken the cell of its first unfilled place, and put the entry there, fills the place

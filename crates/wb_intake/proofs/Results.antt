@@ -65,8 +65,8 @@ legal_still v w saw h = (
   subst (λ (known : List HistoryEntry). All (λ m. length known ≤ m.0) h.0) (sym saw.known) h.2,
 )
 
-pub below_still : (v w : View) (n : ℕ) → Saw v w → w.seen.cursor ≡ n → All (λ m. m.0 < v.seen.cursor) v.mine → All (λ m. m.0 < n) w.mine
-below_still v w n saw is all = subst (λ (mine : List (ℕ × HistoryEntry)). All (λ m. m.0 < n) mine) (sym saw.mine) (λ i d inside. let h = all i d inside in omega (arith, h, is, saw.cursor))
+pub below_still : (v w : View) → Saw v w → All (λ m. m.0 < v.seen.cursor) v.mine → All (λ m. m.0 < v.seen.cursor) w.mine
+below_still v w saw all = subst (λ (mine : List (ℕ × HistoryEntry)). All (λ m. m.0 < v.seen.cursor) mine) (sym saw.mine) all
 
 -- one pass more
 pub newcomers_push : (name : TableId) (limit n : ℕ) (passes : List Pass) (p : Pass) → length passes ≡ n → AreNewcomers name limit passes → pass_name p ≡ name → view_of p ≡ beginning Owner n limit → AreNewcomers name limit (passes ++ p ∷ [])

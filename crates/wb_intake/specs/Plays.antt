@@ -1,10 +1,12 @@
 -- What each step tells the seat that makes it.
-use Rattle.std.specs.Prelude.{ℕ, ◌≡◌, ◌≢◌, ◌+◌, ◌-◌, ◌≤◌, ◌%◌, ◌^◌, max, zero, suc, List, [], ◌∷◌, length, replicate, Option, Some, None}
+use Rattle.std.specs.Prelude.{ℕ, ◌≡◌, ◌≢◌, ◌+◌, ◌-◌, ◌<◌, ◌≤◌, ◌%◌, ◌^◌, max, zero, suc, List, [], ◌∷◌, length, replicate, Option, Some, None}
 use Rattle.atomic_table.specs.Table.{Me, Step, rest}
 use Rattle.wb_geometry.specs.History.{HistoryEntry, Void}
 use Rattle.wb_steps.specs.Faults.{parts_of, IsPartwiseAtMost}
 use Rattle.wb_steps.specs.Views.{naming, filling, holding, taking, draining, telling, note_of, copy, hearing, spent, beginning}
 use Rattle.wb_steps.specs.Steps.{seeing}
+use Rattle.wb_steps.specs.Rule.{MayStand}
+use Rattle.wb_steps.specs.declared.shape.Shape.{Shape}
 use Rattle.wb_steps.specs.declared.view.View.{View}
 use Rattle.wb_steps.specs.declared.view.Role.TheVariants.{Owner}
 use Rattle.wb_intake.specs.declared.sight.Sight.{Sight}
@@ -61,9 +63,10 @@ enters st m n m' = let p = first_unfilled m.0.view.unfilled in m' ≡ (with_view
 abbrev pub fills : At → Sat → ℕ → Sat → Type 0
 fills st m n m' = m' ≡ (with_view m.0 (filling m.0.view (st.first - 1)), rest m.1)
 
--- the drain finds the next place filled, whose number is so small that it has an id, and takes its entry out; or it finds another number in the word
-abbrev pub takes_out : At → Sat → ℕ → Sat → Type 0
-takes_out st m n m' = (n ≡ length m.0.view.known + 1 → (length m.0.view.known + 1 ≤ 2 ^ 55) × (e : HistoryEntry) × (m' ≡ (with_cell_load m.0 (taking m.0.view e) st.word n, (length m.0.view.known % st.slots, Some e) ∷ m.1)))
+-- the drain finds the next place filled, whose number is so small that it has an id, and which is below the limit, and takes its entry out,
+-- which may stand there; or it finds another number in the word
+abbrev pub takes_out : Shape → At → Sat → ℕ → Sat → Type 0
+takes_out k st m n m' = (n ≡ length m.0.view.known + 1 → (length m.0.view.known + 1 ≤ 2 ^ 55) × (length m.0.view.known < m.0.view.seen.limit) × (e : HistoryEntry) × MayStand k (length m.0.view.known) e × (m' ≡ (with_cell_load m.0 (taking m.0.view e) st.word n, (length m.0.view.known % st.slots, Some e) ∷ m.1)))
     × (n ≢ length m.0.view.known + 1 → m' ≡ (with_cell_load m.0 m.0.view st.word n, m.1))
 
 -- the drain gives the cell back

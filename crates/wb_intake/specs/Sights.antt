@@ -4,7 +4,7 @@ use Rattle.std.specs.List.{Contains}
 use mathlib.Core.Option.{some}
 use lib.ListN.{get_elem?}
 use Rattle.atomic_table.specs.Table.{State}
-use Rattle.wb_geometry.specs.History.{HistoryEntry}
+use Rattle.wb_geometry.specs.History.{HistoryEntry, client_of}
 use Rattle.wb_steps.specs.Faults.{IsPartwiseAtMost}
 use Rattle.wb_steps.specs.Views.{IsPrefix, placed, beginning}
 use Rattle.wb_steps.specs.Rule.{Intake, cells, IsLawful}
@@ -21,9 +21,10 @@ use Rattle.wb_intake.specs.declared.sight.Sight.{Sight}
 abbrev pub plain : State (Option HistoryEntry) Sight → Intake
 plain s = record { words = s.words; homes = s.homes; views = map (λ x. x.view) s.views }
 
--- the drain has all that the pass knew, and no number that the pass had seen is above its own
+-- the drain has all that the pass knew, which is of the clients that it counts, and no number that the pass had seen is above its own
 pub record IsBehind (drain pass : View) : Type 0 where
   pub known : IsPrefix pass.known drain.known
+  pub clients : All (λ e. client_of e < drain.client) drain.known
   pub limit : pass.seen.limit ≤ drain.seen.limit
   pub stable : pass.seen.stable ≤ drain.seen.stable
   pub fault : IsPartwiseAtMost pass.seen.fault drain.seen.fault

@@ -56,11 +56,13 @@ impl Intake {
         self.put(&mut pass.seat, place, item);
     }
 
-    /// The next place in order, where it is filled.
+    /// The next place in order, where it is filled. It is below the limit, and its entry may stand there: a write has a dirty
+    /// sector and its block is inside the backing device, no segment begins with a void, and no id is above `2 ^ 48`.
     pub fn take(&self, drain: &mut Drain) -> Result<Parcel, NotFilled>
         requires own { drain_name drain.old ≡ name_of self.now }
         ensures own { drain_name drain.new ≡ drain_name drain.old }
         ensures taken { IfOk result (λ p. (p.place ≡ length (drain_view drain.old).known) × HasDrained (drain_view drain.old) (drain_view drain.new) (entered p.entry)) }
+        ensures stands { IfOk result (λ p. (p.place < (drain_view drain.old).seen.limit) × rule.MayStand (numbers_of self.now) p.place (entered p.entry)) }
         ensures saw { IfErr result (λ r. (drain_view drain.new ≡ seeing (drain_view drain.old) 0 r.cursor) × ((drain_view drain.old).seen.cursor ≤ r.cursor)) }
         ensures loaded { IfOk result (λ p. IsCellLoaded (drain_loads drain.old).cell (drain_loads drain.new).cell (rule.cell_word (numbers_of self.now) p.place) (p.place + 1) × ((drain_loads drain.new).cursor ≡ (drain_loads drain.old).cursor)) }
         ensures others { ((drain_loads drain.new).limit ≡ (drain_loads drain.old).limit) × ((drain_loads drain.new).stable ≡ (drain_loads drain.old).stable) × ((drain_loads drain.new).fault ≡ (drain_loads drain.old).fault) }
@@ -179,15 +181,15 @@ impl Intake {
     }
 
     /// Looks at the cursor, the limit, the stable number and the fault, by one load each. It also shows that what the pass
-    /// names is what its client has in what the pass knows, and places behind that, all below the cursor; and that of two notes
-    /// of one client that the pass heard the later has all that was told up to the other.
+    /// names is what its client has in what the pass knows, and places behind that, all below the cursor that it had seen; and
+    /// that of two notes of one client that the pass heard the later has all that was told up to the other.
     pub fn look(&self, pass: &mut Pass) -> Look
         requires own { pass_name pass.old ≡ name_of self.now }
         ensures own { (pass_name pass.new ≡ pass_name pass.old) × (client_of_pass pass.new ≡ client_of_pass pass.old) }
         ensures saw { Saw (view_of pass.old) (view_of pass.new) }
         ensures others { (loads_of pass.new).cell ≡ (loads_of pass.old).cell }
         ensures legal { IsLegal (view_of pass.new) }
-        ensures below { All (λ m. m.0 < result.cursor) (view_of pass.new).mine }
+        ensures below { All (λ m. m.0 < (view_of pass.old).seen.cursor) (view_of pass.new).mine }
         ensures alike { AreAlike (view_of pass.new).heard }
         ensures cursor { IsLoaded (loads_of pass.old).cursor (loads_of pass.new).cursor result.cursor × ((view_of pass.new).seen.cursor ≡ result.cursor) }
         ensures limit { IsLoaded (loads_of pass.old).limit (loads_of pass.new).limit result.limit × ((view_of pass.new).seen.limit ≡ result.limit) }

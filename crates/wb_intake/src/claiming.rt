@@ -28,6 +28,7 @@ impl Intake {
         requires own { seat.old.table_id ≡ self.now.cells.shared.table_id }
         requires owner { ((sight seat.old).view.role ≡ Owner) × ((sight seat.old).view.unfilled ≡ []) × ((sight seat.old).view.client ≡ client) }
         requires inside { block < self.now.shape.blocks }
+        requires dirty { payload.now.bits ≢ 0 }
         ensures seat { IsSameSeat seat.old seat.new }
         ensures named { IfOk result (λ c. HasNamed (sight seat.old).view (sight seat.new).view c.place (Write client block payload.now.bits payload.now.payload)) }
         ensures block { IfOk result (λ c. c.block ≡ block) }

@@ -12,7 +12,7 @@ ghost use Rattle.wb_intake.specs.Plays.{with_view, with_cell_load};
 ghost use Rattle.wb_intake.specs.Belongs.{sight, IsSameSeat};
 
 use crate::board::{CELLS, Intake};
-use crate::table::{Bumps, Claims, Enters, Fills, GivesBack, Naming, Place, Publishes, TakesOut};
+use crate::table::{Bumps, Claims, Enters, Fills, GivesBack, Naming, Place, Publishes, Shaped, TakesOut};
 use wb_geometry::Block;
 use wb_steps::Item;
 
@@ -120,18 +120,20 @@ impl Intake {
     }
 
     /// The word of the next place, and its entry where the place is filled. The entry joins the drained list.
-    pub(crate) fn take_out(&self, seat: &mut Place, place: u64) -> (u64, Option<Item>)
+    pub(crate) fn take_out<S: Shaped>(&self, seat: &mut Place, place: u64) -> (u64, Option<Item>)
+        requires shape { S.shape ≡ self.now.shape }
         requires own { seat.old.table_id ≡ self.now.cells.shared.table_id }
         requires drain { ((sight seat.old).view.role ≡ Drain) × ((sight seat.old).view.held ≡ None) × (seat.old.me.1 ≡ []) }
         requires place { place ≡ length (sight seat.old).view.known }
         requires few { place ≤ 2 ^ 55 }
         ensures seat { IsSameSeat seat.old seat.new }
         ensures few { IfSome result.1 (λ e. place + 1 ≤ 2 ^ 55) }
+        ensures stands { IfSome result.1 (λ e. (place < (sight seat.old).view.seen.limit) × rule.MayStand self.now.shape place e) }
         ensures taken { IfSome result.1 (λ e. sight seat.new ≡ with_cell_load (sight seat.old) (draining (taking (sight seat.old).view e)) (rule.cell_word self.now.shape place) (place + 1)) }
         ensures waits { IfNone result.1 ((result.0 ≢ place + 1) × (sight seat.new ≡ with_cell_load (sight seat.old) (sight seat.old).view (rule.cell_word self.now.shape place) result.0)) }
     {
         let cell = self.cell_of(place);
-        let found = self.cells.shared.load::<TakesOut>(seat, CELLS + cell);
+        let found = self.cells.shared.load::<TakesOut<S>>(seat, CELLS + cell);
         if found != place + 1 {
             return (found, None);
         }

@@ -78,12 +78,25 @@ impl Play<Option<Item>, Sight> for Fills {
     ghost then = { fills };
 }
 
-pub(crate) struct TakesOut;
+/// The numbers of an intake. The drain picks them where it takes an entry out, for contracts alone.
+pub trait Shaped {
+    ghost use Rattle.wb_steps.specs.declared.shape.Shape.{Shape};
 
-impl Play<Option<Item>, Sight> for TakesOut {
+    ghost shape: { Shape };
+}
+
+impl Shaped for Brand {
+    ghost shape = { record { places = 1; ram = 1; blocks = 0; first = 0 } };
+}
+
+pub(crate) struct TakesOut<S> {
+    shape: PhantomData<S>,
+}
+
+impl<S: Shaped> Play<Option<Item>, Sight> for TakesOut<S> {
     ghost use Rattle.wb_intake.specs.Plays.{takes_out};
 
-    ghost then = { takes_out };
+    ghost then = { takes_out S.shape };
 }
 
 pub(crate) struct GivesBack;

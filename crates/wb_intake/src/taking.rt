@@ -9,6 +9,7 @@ ghost use Rattle.wb_intake.specs.Belongs.{sight, IsSameSeat, HasDrained, IsWaiti
 use crate::answers::NotFilled;
 use crate::board::Intake;
 use crate::table::Place;
+use std::marker::Brand;
 use wb_steps::Item;
 
 impl Intake {
@@ -21,12 +22,13 @@ impl Intake {
         ensures seat { IsSameSeat seat.old seat.new }
         ensures taken { IfOk result (λ e. HasDrained (sight seat.old).view (sight seat.new).view e) }
         ensures few { IfOk result (λ e. place + 1 ≤ 2 ^ 55) }
+        ensures stands { IfOk result (λ e. (place < (sight seat.old).view.seen.limit) × rule.MayStand self.now.shape place e) }
         ensures loaded { IfOk result (λ e. IsCellLoaded (sight seat.old).loads.cell (sight seat.new).loads.cell (rule.cell_word self.now.shape place) (place + 1) × ((sight seat.new).loads.cursor ≡ (sight seat.old).loads.cursor)) }
         ensures others { ((sight seat.new).loads.limit ≡ (sight seat.old).loads.limit) × ((sight seat.new).loads.stable ≡ (sight seat.old).loads.stable) × ((sight seat.new).loads.fault ≡ (sight seat.old).loads.fault) }
         ensures saw { IfErr result (λ r. ((sight seat.new).view ≡ seeing (sight seat.old).view 0 r.cursor) × ((sight seat.old).view.seen.cursor ≤ r.cursor)) }
         ensures waits { IfErr result (λ r. (r.place ≡ place) × IsWaiting self.now.shape (sight seat.old).loads (sight seat.new).loads r) }
     {
-        match self.take_out(seat, place) {
+        match self.take_out::<Brand>(seat, place) {
             (_, Some(item)) => Ok(item),
             (word, None) => {
                 let cursor = self.load(seat, 0);

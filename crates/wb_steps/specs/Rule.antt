@@ -45,9 +45,10 @@ pub record IsShape (k : Shape) : Type 0 where
 abbrev pub segment_at : Shape → ℕ → ℕ
 segment_at k p = k.first + 1 + p / k.places
 
--- an entry may stand at the place: no id is above 2^48, no block is outside the backing device, and a segment doesn't begin with a void
+-- an entry may stand at the place: no id is above 2^48, no block is outside the backing device, a write has a dirty sector, and a segment
+-- doesn't begin with a void
 abbrev pub MayStand : Shape → ℕ → HistoryEntry → Type 0
-MayStand k p (Write client block bits payload) = (segment_at k p ≤ 2 ^ 48) × (block < k.blocks)
+MayStand k p (Write client block bits payload) = (segment_at k p ≤ 2 ^ 48) × (block < k.blocks) × (bits ≢ 0)
 MayStand k p (Void client) = (segment_at k p ≤ 2 ^ 48) × (p % k.places ≢ 0)
 
 -- How far a place is. A place that is named and not filled has the seat of its owner.

@@ -25,8 +25,8 @@ fn may_stand(shape: &Shape, place: u64, entry: &Entry) -> bool
         Entry::Write {
             client: _,
             block,
-            payload: _,
-        } => has_id && *block < shape.blocks,
+            payload,
+        } => has_id && *block < shape.blocks && payload.bits != 0,
         Entry::Void { client: _ } => has_id && place % shape.places != 0,
     }
 }

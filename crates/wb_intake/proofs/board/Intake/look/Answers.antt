@@ -7,7 +7,7 @@ pub returns-clause-legal : goal.returns-clause-legal
 returns-clause-legal c = legal_still _ _ c.look_around.ensures.saw (c.look_around.ensures.names c.args.pass.now.owns.0).0
 
 pub returns-clause-below : goal.returns-clause-below
-returns-clause-below c = below_still _ _ _ c.look_around.ensures.saw c.look_around.ensures.cursor.1 (c.look_around.ensures.names c.args.pass.now.owns.0).1
+returns-clause-below c = below_still _ _ c.look_around.ensures.saw (c.look_around.ensures.names c.args.pass.now.owns.0).1
 
 pub returns-clause-alike : goal.returns-clause-alike
 returns-clause-alike c = subst AreAlike (sym c.look_around.ensures.saw.heard) (c.look_around.ensures.names c.args.pass.now.owns.0).2
