@@ -16,6 +16,7 @@ mod settling;
 mod slots;
 
 use crate::{Closed, Engine, OpenStop, Turn};
+use calls::Listed;
 use std::alloc::{AllocError, Global};
 use std::process::Abort;
 use std::test::Fail;
@@ -77,6 +78,12 @@ trait Play<L: Device, B: Device> {
     fn carry_out(&mut self, alloc: Global, engine: &mut Engine<L, B>) -> Result<(), Fail>;
 }
 
+/// What is done with a cache over devices that list their calls, before it is ended.
+trait PlayListed {
+    /// Does it, or says what went otherwise.
+    fn carry_out(&mut self, alloc: Global, engine: &mut Engine<Listed, Listed>) -> Result<(), Fail>;
+}
+
 /// What closing leaves of a cache over these devices, with which this was done before.
 fn closed_after<L: Device, B: Device>(
     alloc: Global,
@@ -84,6 +91,24 @@ fn closed_after<L: Device, B: Device>(
     backing: B,
     play: &mut impl Play<L, B>,
 ) -> Result<Closed<L, B>, Fail> {
+    match Engine::open(alloc, log, backing) {
+        Ok(mut engine) => {
+            let done = play.carry_out(alloc, &mut engine);
+            let closed = engine.close();
+            done?;
+            Ok(closed)
+        }
+        Err(stop) => Err(stop.cause.into()),
+    }
+}
+
+/// What closing leaves of a cache over these devices, which list their calls, with which this was done before.
+fn closed_after_listed(
+    alloc: Global,
+    log: Listed,
+    backing: Listed,
+    play: &mut impl PlayListed,
+) -> Result<Closed<Listed, Listed>, Fail> {
     match Engine::open(alloc, log, backing) {
         Ok(mut engine) => {
             let done = play.carry_out(alloc, &mut engine);

@@ -1,8 +1,8 @@
 //! Batches: which segments are written back at once, and by which calls.
 use super::calls::{Listed, listed};
 use super::{
-    Play, SECTOR_BYTES, are_filled, closed_after, former_fills, holds, narrow_log, new_backing,
-    row_holds, write,
+    PlayListed, SECTOR_BYTES, are_filled, closed_after_listed, former_fills, holds, narrow_log,
+    new_backing, row_holds, write,
 };
 use crate::{Closed, Engine};
 use std::alloc::Global;
@@ -174,7 +174,7 @@ fn has_newest(engine: &Engine<Listed, Listed>) -> bool {
 #[derive(Drop)]
 struct OneSector;
 
-impl Play<Listed, Listed> for OneSector {
+impl PlayListed for OneSector {
     /// To open the cache took two syncs of the backing device.
     fn carry_out(
         &mut self,
@@ -194,7 +194,7 @@ impl Play<Listed, Listed> for OneSector {
 fn a_batch_writes_a_sector_once(rt: HostRuntime) -> Result<(), Fail> {
     let log = listed(rt.alloc(), narrow_log(rt.alloc(), 8)?)?;
     let backing = listed(rt.alloc(), new_backing(rt.alloc())?)?;
-    let closed = closed_after(rt.alloc(), log, backing, &mut OneSector)?;
+    let closed = closed_after_listed(rt.alloc(), log, backing, &mut OneSector)?;
     assert!(rt; closed.fault.is_none() && closed.backing.counts().syncs == 3);
     Ok(())
 }
@@ -218,7 +218,7 @@ fn takes(engine: &mut Engine<Listed, Listed>, session: &Session, last: u8) -> Re
     holds(has_segments(bytes, session, last), "other bytes are put")
 }
 
-impl Play<Listed, Listed> for Batches {
+impl PlayListed for Batches {
     fn carry_out(
         &mut self,
         alloc: Global,
@@ -270,7 +270,7 @@ fn is_row(alloc: Global, row: &(u8, u8, u8, [u8; 2])) -> Result<bool, Fail> {
     };
     let log = listed(alloc, narrow_log(alloc, 16)?)?;
     let backing = listed(alloc, new_backing(alloc)?)?;
-    let closed = closed_after(alloc, log, backing, &mut Batches { session, takes })?;
+    let closed = closed_after_listed(alloc, log, backing, &mut Batches { session, takes })?;
     Ok(closed_well(closed, &session))
 }
 

@@ -1,5 +1,7 @@
 //! The calls that each step makes of both devices.
-use super::{Play, closed_after, holds, new_backing, new_log, reads_third, turn, write_third};
+use super::{
+    PlayListed, closed_after_listed, holds, new_backing, new_log, reads_third, turn, write_third,
+};
 use crate::{Closed, Engine, Turn};
 use std::alloc::Global;
 use std::test::Fail;
@@ -165,7 +167,7 @@ enum Count {
     Reads,
 }
 
-impl Play<Listed, Listed> for Count {
+impl PlayListed for Count {
     fn carry_out(
         &mut self,
         alloc: Global,
@@ -185,7 +187,7 @@ impl Play<Listed, Listed> for Count {
 fn closed_after_counts(alloc: Global, mut count: Count) -> Result<Closed<Listed, Listed>, Fail> {
     let log = listed(alloc, new_log(alloc)?)?;
     let backing = listed(alloc, new_backing(alloc)?)?;
-    closed_after(alloc, log, backing, &mut count)
+    closed_after_listed(alloc, log, backing, &mut count)
 }
 
 #[test]

@@ -3,7 +3,9 @@
 use super::batches::{Batch, drain, drive};
 use super::calls::{Listed, listed};
 use super::listed::{draw, draw_part};
-use super::{Play, SECTOR_BYTES, closed_after, holds, new_backing, put, row_holds, write};
+use super::{
+    PlayListed, SECTOR_BYTES, closed_after_listed, holds, new_backing, put, row_holds, write,
+};
 use crate::Engine;
 use std::alloc::Global;
 use std::test::Fail;
@@ -81,7 +83,7 @@ fn go_on(alloc: Global, engine: &mut Cache, driven: &mut Driven) -> Result<(), F
     answer(engine, block, &mut driven.answers)
 }
 
-impl Play<Listed, Listed> for Driven {
+impl PlayListed for Driven {
     fn carry_out(&mut self, alloc: Global, engine: &mut Cache) -> Result<(), Fail> {
         for _ in 0..61 {
             go_on(alloc, engine, self)?;
@@ -120,7 +122,7 @@ fn left_by(alloc: Global, row: &Row, batch: Batch) -> Result<Left, Fail> {
         answers: Vec::new(alloc),
         calls: 0,
     };
-    let closed = closed_after(alloc, log, backing, &mut driven)?;
+    let closed = closed_after_listed(alloc, log, backing, &mut driven)?;
     Ok(Left {
         bytes: closed.backing.into_inner().into_bytes(),
         answers: driven.answers,

@@ -1,8 +1,8 @@
 //! Sectors that stand next to each other are read by one call.
 use super::calls::{Listed, counts_of, listed, was_called};
 use super::{
-    LOG_SECTORS, Play, SECTOR_BYTES, closed_after, former_bytes, holds, reads_as, reads_sector,
-    turn, write, write_third,
+    LOG_SECTORS, PlayListed, SECTOR_BYTES, closed_after_listed, former_bytes, holds, reads_as,
+    reads_sector, turn, write, write_third,
 };
 use crate::{Closed, Engine, Turn};
 use std::alloc::Global;
@@ -74,7 +74,7 @@ fn count_runs(alloc: Global, engine: &mut Engine<Listed, Listed>) -> Result<(), 
 #[derive(Drop)]
 struct Runs;
 
-impl Play<Listed, Listed> for Runs {
+impl PlayListed for Runs {
     fn carry_out(
         &mut self,
         alloc: Global,
@@ -95,7 +95,7 @@ fn wide_log(alloc: Global) -> Result<SteadyDevice, Fail> {
 fn closed_after_reads(alloc: Global) -> Result<Closed<Listed, Listed>, Fail> {
     let log = listed(alloc, wide_log(alloc)?)?;
     let backing = listed(alloc, SteadyDevice::of(former_bytes(alloc, WIDE)?))?;
-    closed_after(alloc, log, backing, &mut Runs)
+    closed_after_listed(alloc, log, backing, &mut Runs)
 }
 
 #[test]

@@ -1,7 +1,10 @@
 //! Entries are made stable: with the calls that it takes, and with a device that fails at each of them.
 use super::calls::{Counts, Listed, counts_of, listed, was_called};
 use super::faults::write_all;
-use super::{Play, closed_after, failing_backing, failing_log, holds, new_backing, new_log};
+use super::{
+    Play, PlayListed, closed_after, closed_after_listed, failing_backing, failing_log, holds,
+    new_backing, new_log,
+};
 use crate::{Closed, Engine};
 use std::alloc::Global;
 use std::process::Abort;
@@ -70,7 +73,7 @@ fn count_for_a_slot(alloc: Global, engine: &mut Engine<Listed, Listed>) -> Resul
 #[derive(Drop)]
 struct Both;
 
-impl Play<Listed, Listed> for Both {
+impl PlayListed for Both {
     fn carry_out(
         &mut self,
         alloc: Global,
@@ -85,7 +88,7 @@ impl Play<Listed, Listed> for Both {
 fn closed_after_both(alloc: Global) -> Result<Closed<Listed, Listed>, Fail> {
     let log = listed(alloc, new_log(alloc)?)?;
     let backing = listed(alloc, new_backing(alloc)?)?;
-    closed_after(alloc, log, backing, &mut Both)
+    closed_after_listed(alloc, log, backing, &mut Both)
 }
 
 /// What closing then did: the fifth segment is written back, and recorded.
