@@ -4,8 +4,8 @@ use Rattle.atomic_table.specs.Seated.{TableId}
 use Rattle.wb_geometry.specs.Image.{Image}
 use Rattle.wb_geometry.specs.declared.geometry.Geometry.{Geometry}
 
--- Of which intake it is, with its geometry, the id below that of its first segment and the number of clients; the image that the session began with; of each
--- device how many faults it had at the opening, and whether it told its content then.
+-- Of which intake it is, with its geometry, the id below that of its first segment and the number of clients; the image that
+-- the session began with; of each device how many faults it had at the opening, and whether it told its content then.
 pub record Carried : Type 0 where
   pub intake : TableId
   pub geometry : Geometry

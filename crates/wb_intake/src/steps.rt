@@ -12,7 +12,9 @@ ghost use Rattle.wb_intake.specs.Plays.{with_view, with_cell_load};
 ghost use Rattle.wb_intake.specs.Belongs.{sight, IsSameSeat};
 
 use crate::board::{CELLS, Intake};
-use crate::table::{Bumps, Claims, Enters, Fills, GivesBack, Naming, Place, Publishes, Shaped, TakesOut};
+use crate::table::{
+    Bumps, Claims, Enters, Fills, GivesBack, Naming, Place, Publishes, Shaped, TakesOut,
+};
 use wb_geometry::Block;
 use wb_steps::Item;
 

@@ -16,7 +16,7 @@ load-found-requires g c = (
   c.requires.own,
   omega (arith, c.args.self.now.table.0, c.cell_of-cell.ensures.inside),
   subst (λ (k : Shape). Allows (Holds c.args.self.now.cells.shared.key) c.args.self.now.cells.shared.table_id.slots c.args.seat.now.id c.args.seat.now.me (4 + c.cell_of-cell.result) (λ y. y) (takes_out k (step c.args.self.now.cells.shared.table_id.slots (4 + c.cell_of-cell.result) 0 0 none) c.args.seat.now.me)) (c.args.self.now.key ∙ sym c.requires.shape)
-  (moves.takes_as c.args.self.now.cells.shared.key (subst rule.IsShape (sym c.args.self.now.key) c.args.self.now.fits) c.args.self.now.cells.shared.table_id.slots c.args.seat.now.id c.args.seat.now.me (4 + c.cell_of-cell.result) c.requires.drain.0 c.requires.drain.1
+      (moves.takes_as c.args.self.now.cells.shared.key (subst rule.IsShape (sym c.args.self.now.key) c.args.self.now.fits) c.args.self.now.cells.shared.table_id.slots c.args.seat.now.id c.args.seat.now.me (4 + c.cell_of-cell.result) c.requires.drain.0 c.requires.drain.1
       (c.args.self.now.table.1 ∙ ap rule.cells (sym c.args.self.now.key)) (let e = ap (λ (k : Shape). c.args.place % rule.cells k) c.args.self.now.key in (let g : 4 + c.cell_of-cell.result ≡ c.args.place % rule.cells c.args.self.now.cells.shared.key + 4 = omega (arith, e, c.cell_of-cell.ensures.cell) in g) ∙ ap (λ (p : ℕ). rule.cell_word c.args.self.now.cells.shared.key p) c.requires.place)),
 )
 
