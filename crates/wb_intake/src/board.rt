@@ -16,7 +16,7 @@ pub struct Intake {
     pub(crate) cells: Cells,
     pub(crate) shape: Shape,
     ghost key: { cells.shared.key ≡ shape },
-    ghost fits: { rule.IsShape shape },
+    pub ghost fits: { rule.IsShape shape },
     ghost table: { (cells.shared.table_id.words ≡ rule.cells shape + 4) × (cells.shared.table_id.slots ≡ rule.cells shape) },
 }
 

@@ -3,7 +3,7 @@ ghost use Rattle.std.specs.Prelude.{◌≡◌, ◌≢◌, ◌+◌, ◌-◌, ◌%
 ghost use Rattle.wb_geometry.specs.History.{Write};
 ghost use Rattle.wb_geometry.specs.Entering.{entered};
 ghost use Rattle.wb_steps.specs.Faults.{parts_of, IsPartwiseAtMost};
-ghost use Rattle.wb_steps.specs.Views.{telling, note_of, copy, hearing, filling};
+ghost use Rattle.wb_steps.specs.Views.{IsPrefix, telling, note_of, copy, hearing, filling};
 ghost use Rattle.wb_steps.specs.Rule as rule;
 ghost use Rattle.wb_steps.specs.Steps.{seeing, IsRoundedUp};
 ghost use Rattle.wb_intake.specs.Sights.{IsLoaded, IsCellLoaded, IsBehind, IsLegal, AreAlike};
@@ -152,12 +152,13 @@ impl Intake {
         }
     }
 
-    /// The pass has then seen what it and the note had seen.
+    /// The pass has then seen what it and the note had seen. What it knows only grows.
     pub fn hear(&self, pass: &mut Pass, note: Note)
         requires own { (pass_name pass.old ≡ name_of self.now) × (note_name note ≡ name_of self.now) }
         ensures own { (pass_name pass.new ≡ pass_name pass.old) × (client_of_pass pass.new ≡ client_of_pass pass.old) }
         ensures loads { loads_of pass.new ≡ loads_of pass.old }
         ensures heard { view_of pass.new ≡ hearing (view_of pass.old) (note_view note) }
+        ensures more { IsPrefix (view_of pass.old).known (view_of pass.new).known }
     {
         let Note {
             seat,
@@ -181,8 +182,9 @@ impl Intake {
     }
 
     /// Looks at the cursor, the limit, the stable number and the fault, by one load each. It also shows that what the pass
-    /// names is what its client has in what the pass knows, and places behind that, all below the cursor that it had seen; and
-    /// that of two notes of one client that the pass heard the later has all that was told up to the other.
+    /// names is what its client has in what the pass knows, and places behind that, all below the cursor that it had seen;
+    /// that it knows no place at or above the cursor; and that of two notes of one client that the pass heard the later has
+    /// all that was told up to the other.
     pub fn look(&self, pass: &mut Pass) -> Look
         requires own { pass_name pass.old ≡ name_of self.now }
         ensures own { (pass_name pass.new ≡ pass_name pass.old) × (client_of_pass pass.new ≡ client_of_pass pass.old) }
@@ -190,6 +192,7 @@ impl Intake {
         ensures others { (loads_of pass.new).cell ≡ (loads_of pass.old).cell }
         ensures legal { IsLegal (view_of pass.new) }
         ensures below { All (λ m. m.0 < (view_of pass.old).seen.cursor) (view_of pass.new).mine }
+        ensures few { length (view_of pass.new).known ≤ (view_of pass.new).seen.cursor }
         ensures alike { AreAlike (view_of pass.new).heard }
         ensures cursor { IsLoaded (loads_of pass.old).cursor (loads_of pass.new).cursor result.cursor × ((view_of pass.new).seen.cursor ≡ result.cursor) }
         ensures limit { IsLoaded (loads_of pass.old).limit (loads_of pass.new).limit result.limit × ((view_of pass.new).seen.limit ≡ result.limit) }

@@ -1,5 +1,5 @@
 //! Looks, and bumps.
-ghost use Rattle.std.specs.Prelude.{◌≡◌, ◌≢◌, ◌+◌, ◌-◌, ◌<◌, ◌≤◌, ◌^◌, ℕ, [], max, replicate, map};
+ghost use Rattle.std.specs.Prelude.{◌≡◌, ◌≢◌, ◌+◌, ◌-◌, ◌<◌, ◌≤◌, ◌^◌, ℕ, [], length, max, replicate, map};
 ghost use Rattle.std.specs.List.{enumerate_from};
 ghost use Rattle.wb_geometry.specs.History.{Void};
 ghost use Rattle.wb_steps.specs.Faults.{parts_of};
@@ -22,6 +22,7 @@ impl Intake {
         ensures seat { IsSameSeat seat.old seat.new }
         ensures saw { Saw (sight seat.old).view (sight seat.new).view }
         ensures names { NamesRightly (sight seat.old).view }
+        ensures few { length (sight seat.new).view.known ≤ (sight seat.new).view.seen.cursor }
         ensures others { (sight seat.new).loads.cell ≡ (sight seat.old).loads.cell }
         ensures cursor { IsLoaded (sight seat.old).loads.cursor (sight seat.new).loads.cursor result.cursor × ((sight seat.new).view.seen.cursor ≡ result.cursor) }
         ensures limit { IsLoaded (sight seat.old).loads.limit (sight seat.new).loads.limit result.limit × ((sight seat.new).view.seen.limit ≡ result.limit) }

@@ -161,7 +161,7 @@ between_both t i j v w a b = record {
 
 known_both : (t : Truth) (v w : View) → IsPrefix v.known t.drained → IsPrefix w.known t.drained → IsPrefix (longer v.known w.known) t.drained × (length (longer v.known w.known) ≤ max (length v.known) (length w.known))
 known_both t v w a b = elim (cases_lt (length v.known) (length w.known)) [
-  | inl less ↦ let e = longer_other v.known w.known (omega arith) in (subst (λ (l : List HistoryEntry). IsPrefix l t.drained) (sym e) b, (let n = ap length e in omega (arith, n)))
+  | inl less ↦ let e = longer_other v.known w.known (prefix_both w.known v.known t.drained b a (omega (arith, less))) in (subst (λ (l : List HistoryEntry). IsPrefix l t.drained) (sym e) b, (let n = ap length e in omega (arith, n)))
   | inr more ↦ let e = prefix_longer v.known w.known (prefix_both v.known w.known t.drained a b more) in (subst (λ (l : List HistoryEntry). IsPrefix l t.drained) (sym e) a, (let n = ap length e in omega (arith, n)))
 ]
 

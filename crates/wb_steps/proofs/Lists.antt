@@ -28,17 +28,22 @@ module _ {X : Type 0} where
   pub prefix_at : (xs ys : List X) (i : ℕ) (x : X) → IsPrefix xs ys → get_elem? xs i ≡ some x → get_elem? ys i ≡ some x
   prefix_at xs ys i x a h = ap (λ (l : List X). get_elem? l i) a.1 ∙ at_longer xs a.0 i x h
 
-  pub prefix_longer : (xs ys : List X) → IsPrefix ys xs → longer xs ys ≡ xs
-  prefix_longer xs ys a = ap (λ (l : List X). ys ++ drop (length ys) l) a.1 ∙ ap (λ (l : List X). ys ++ l) (drop-append_seam ys a.0) ∙ sym a.1
-
   drop_all : (xs : List X) (n : ℕ) → length xs ≤ n → drop n xs ≡ []
   drop_all [] zero h = refl
   drop_all [] (suc n) h = refl
   drop_all (x ∷ xs) zero h = absurd (omega arith)
   drop_all (x ∷ xs) (suc n) h = drop_all xs n (omega arith)
 
-  pub longer_other : (xs ys : List X) → length xs ≤ length ys → longer xs ys ≡ ys
-  longer_other xs ys h = ap (λ (l : List X). ys ++ l) (drop_all xs (length ys) h) ∙ append-nil ys
+  -- the longer of a list and a beginning of it, and of a beginning and the list
+  pub prefix_longer : (xs ys : List X) → IsPrefix ys xs → longer xs ys ≡ xs
+  prefix_longer xs ys a = ap (λ (l : List X). xs ++ l) (drop_all ys (length xs) (prefix_length ys xs a)) ∙ append-nil xs
+
+  pub longer_other : (xs ys : List X) → IsPrefix xs ys → longer xs ys ≡ ys
+  longer_other xs ys a = ap (λ (l : List X). xs ++ drop (length xs) l) a.1 ∙ ap (λ (l : List X). xs ++ l) (drop-append_seam xs a.0) ∙ sym a.1
+
+  -- what is known only grows
+  pub longer_more : (xs ys : List X) → IsPrefix xs (longer xs ys)
+  longer_more xs ys = (drop (length xs) ys, refl)
 
   -- of two beginnings of a list the shorter one is a beginning of the other
   pub prefix_both : (xs ys zs : List X) → IsPrefix xs zs → IsPrefix ys zs → length ys ≤ length xs → IsPrefix ys xs

@@ -62,9 +62,9 @@ note_of v = copy v ((v.client, v.told ++ v.seen.cursor ∷ []) ∷ [])
 abbrev pub greater_seen : Seen → Seen → Seen
 greater_seen a b = record { cursor = max a.cursor b.cursor; limit = max a.limit b.limit; stable = max a.stable b.stable; fault = greater_parts a.fault b.fault }
 
--- the longer of two lists of which one is the beginning of the other
+-- The longer of two lists of which one is the beginning of the other. The first is always a beginning of it.
 abbrev pub longer : {X : Type 0} → List X → List X → List X
-longer xs ys = ys ++ drop (length ys) xs
+longer xs ys = xs ++ drop (length xs) ys
 
 -- an owner hears what the copy has of notes
 abbrev pub heard_by : Role → List (ℕ × List ℕ) → List (ℕ × List ℕ) → List (ℕ × List ℕ)

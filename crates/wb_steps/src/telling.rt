@@ -159,9 +159,9 @@ fn heard_both(
 fn longer_of(alloc: Global, items: &[Item], more: &[Item]) -> Result<Items<Item>, AllocError>
     ensures { IfOk result (λ known. known ≡ longer items.now more.now) }
 {
-    let mut known = copied_items(alloc, more)?;
-    if more.len() < items.len() {
-        push_items(alloc, &mut known, &items[more.len()..])?;
+    let mut known = copied_items(alloc, items)?;
+    if items.len() < more.len() {
+        push_items(alloc, &mut known, &more[items.len()..])?;
     }
     Ok(known)
 }
