@@ -22,16 +22,6 @@ use Rattle.wb_serve.proofs.Played.{playing_none}
 use Rattle.wb_serve.proofs.Clients.{all_none, all_push}
 use Rattle.wb_serve.proofs.Enough.{are_enough}
 
--- a request that may be made of a device may be made of a larger one
-pub asked_more : (sectors more clients client : ℕ) (request : Request) → sectors ≤ more → IsAsked sectors clients client request → IsAsked more clients client request
-asked_more sectors more clients client (Write sector count pattern fua) le (within, fills) = (record { some = within.some; few = within.few; inside = omega (arith, le, within.inside) }, fills)
-asked_more sectors more clients client (Read sector count) le within = record { some = within.some; few = within.few; inside = omega (arith, le, within.inside) }
-asked_more sectors more clients client (ReadSum sector count) le within = record { some = within.some; few = within.few; inside = omega (arith, le, within.inside) }
-asked_more sectors more clients client Flush le asked = tt
-asked_more sectors more clients client Defer le asked = tt
-asked_more sectors more clients client (Tell other) le asked = asked
-asked_more sectors more clients client (Hear other) le asked = asked
-
 -- the first of the requests hear no more notes
 fewer_heard : (teller count : ℕ) (requests : List Request) → heard_of teller (take count requests) ≤ heard_of teller requests
 fewer_heard teller zero requests = omega arith

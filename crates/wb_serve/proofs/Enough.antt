@@ -6,22 +6,15 @@ use Rattle.std.proofs.lemmas.List.FromFn.{get_or-enumerate_from, length-enumerat
 use Rattle.std.proofs.lemmas.Bool.{cases_lt}
 use Rattle.wb_geometry.specs.History.{HistoryEntry}
 use Rattle.wb_script.specs.Content.{ScriptContent}
-use Rattle.wb_script.specs.Valid.{IsValid, IsAsked, told_to, requests_at}
+use Rattle.wb_script.specs.Valid.{IsValid, told_to, requests_at}
 use Rattle.wb_script.specs.Transcripts.{no_notes}
 use Rattle.wb_script.specs.Clients.{AreServed, notes_after}
 use Rattle.wb_script.proofs.NotesLeft.{length-notes_after}
 use Rattle.wb_script.specs.declared.request.Request.{Request}
 use Rattle.wb_script.specs.declared.transcript.Line.{Line}
+use Rattle.wb_buffers.proofs.Asked.{asked_at}
 use Rattle.wb_serve.specs.Playing.{AreEnough}
 use Rattle.wb_serve.proofs.Clients.{none_heard}
-
--- what the requests of this client are asked of
-pub asked_at : (script : ScriptContent) (client : ℕ) → IsValid script → client < length script.requests → All (IsAsked script.sectors script.clients client) (requests_at script.requests client)
-asked_at script client valid below =
-    let is : get_or (enumerate_from 0 script.requests) client (0, []) ≡ (client, requests_at script.requests client) =
-    get_or-enumerate_from 0 script.requests client (0, []) below ∙ ap (λ (n : ℕ). (n, requests_at script.requests client)) (let z : 0 + client ≡ client = omega arith in z) in
-    subst (λ (own : ℕ × List Request). All (IsAsked script.sectors script.clients own.0) own.1) is
-    (valid.asked client (0, []) (omega (arith, below, length-enumerate_from 0 script.requests)))
 
 pub are_enough : (script : ScriptContent) (client : ℕ) (transcripts : List (List Line)) (history : List HistoryEntry) → IsValid script → client < length script.requests
     → AreServed None history (take client script.requests) transcripts → AreEnough (notes_after no_notes 0 (take client script.requests) transcripts client) (requests_at script.requests client)

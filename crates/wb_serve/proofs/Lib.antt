@@ -4,7 +4,6 @@ pub mod Taken
 pub mod Rooms
 pub mod Lines
 pub mod Parts
-pub mod Repeats
 pub mod Faults
 pub mod Answering
 pub mod Flags

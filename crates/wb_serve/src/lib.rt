@@ -1,7 +1,6 @@
 //! Serving the clients of a script over a cache. `specs/Session.antt` says what a session leaves.
 #![tactic(auto)]
 
-mod buffers;
 mod flushing;
 mod playing;
 mod serving;

@@ -1,7 +1,6 @@
 //! Answering the requests of a client over the engine.
 ghost use Rattle.std.specs.Prelude.{◌≡◌, ◌⊎◌, ◌==◌, ◌*◌, ◌≤◌, ℕ, List, All, IfOk, IfErr, OnOk, OnErr, length};
 ghost use Rattle.wb_geometry.specs.History.{HistoryEntry};
-ghost use Rattle.wb_sum.specs.Crc32c.{sum_of};
 ghost use Rattle.wb_script.specs.Transcripts.{covered_by, is_failure};
 ghost use Rattle.wb_engine.specs.Settling.{stable_places};
 ghost use Rattle.wb_script.specs.Valid.{IsWithin, IsAsked};
@@ -10,15 +9,14 @@ ghost use Rattle.wb_script.specs.declared.transcript.Line.{Line};
 ghost use Rattle.wb_serve.specs.Session.{EndFlushes};
 ghost use Rattle.wb_serve.specs.Playing.{IsAnswered, IsForcedLine, IsPlayed, IsPlayedInPart, is_stopped_line, nothing_played, with_line};
 
-use crate::buffers::Buffers;
 use crate::flushing::{await_posted, flush, post_flush};
 use crate::writing::write;
 use std::alloc::{AllocError, Global};
+use wb_buffers::{Buffers, sum_of};
 use wb_device::Device;
 use wb_engine::Engine;
 use wb_geometry::{Places, Which};
 use wb_script::{Line, Request, Shown, Stop, Taken, Transcript};
-use wb_sum::Sum;
 
 const SECTOR_BYTES: usize = 512;
 
@@ -203,15 +201,6 @@ fn read_sum<L: Device, B: Device>(
         },
         Err(device) => Line::Failed { device },
     }
-}
-
-/// The checksum of the bytes.
-fn sum_of(bytes: &[u8]) -> u32
-    ensures { result ≡ sum_of bytes.now }
-{
-    let mut sum = Sum::new();
-    sum.update(bytes);
-    sum.finish()
 }
 
 /// Whether the line says that a write was stopped for want of an id.

@@ -12,9 +12,9 @@ ghost use Rattle.wb_engine.specs.Settling.{stable_places};
 ghost use Rattle.wb_serve.specs.Ending.{TellsOf, is_down_by};
 ghost use Rattle.wb_serve.specs.declared.serving.ServeStop.TheVariants.{Open};
 
-use crate::buffers::Buffers;
 use crate::playing::{Played, play};
 use std::alloc::{AllocError, Global};
+use wb_buffers::Buffers;
 use wb_device::Device;
 use wb_engine::{Engine, OpenCause};
 use wb_geometry::Which;

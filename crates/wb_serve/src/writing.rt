@@ -9,6 +9,7 @@ ghost use Rattle.wb_engine.specs.Standing.{Fits};
 ghost use Rattle.wb_serve.specs.Playing.{HasMoved, HasRoom, TakesPlace, TakesPlaces, IsWriteInside};
 
 use std::alloc::{AllocError, Global};
+use wb_buffers::repeat;
 use wb_device::Device;
 use wb_engine::Engine;
 use wb_geometry::{Block, Entry, Places, Which, split};
@@ -39,22 +40,6 @@ pub fn write<L: Device, B: Device>(
     repeat(bytes, pattern.as_slice(), SECTOR_BYTES * count as usize)?;
     let entries = entries_of(alloc, client, sector, count, bytes)?;
     Ok(take_places(engine, entries))
-}
-
-/// The bytes of a pattern, repeated to so many, which are a multiple of its own.
-fn repeat(bytes: &mut Vec<u8>, pattern: &[u8], size: usize) -> Result<(), AllocError>
-    requires some { 1 ≤ length pattern.now }
-    requires whole { size % length pattern.now ≡ 0 }
-    ensures { OnOk result (bytes.new.items ≡ repeated pattern.now size) }
-{
-    bytes.clear();
-    if let [byte] = pattern {
-        return bytes.resize(size, *byte);
-    }
-    for _ in 0..size / pattern.len() {
-        bytes.extend_from_slice(pattern)?;
-    }
-    Ok(())
 }
 
 /// The entries of a write, of at least one sector: one for each block that it touches, with its piece of the bytes.

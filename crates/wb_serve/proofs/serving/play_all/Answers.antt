@@ -14,8 +14,9 @@ use Rattle.wb_serve.specs.Session.{EndFlushes}
 use Rattle.wb_serve.specs.Playing.{IsPlayed, AreAllPlayed, Tally, tally_of, with_client}
 use Rattle.wb_serve.proofs.Played.{at_err, stable_later, all_end_later}
 use Rattle.wb_serve.proofs.Clients.{all_none, all_push}
-use Rattle.wb_serve.proofs.Enough.{asked_at, are_enough}
-use Rattle.wb_serve.proofs.Cut.{asked_more, none_in_part, some_in_part}
+use Rattle.wb_buffers.proofs.Asked.{asked_at, asked_more}
+use Rattle.wb_serve.proofs.Enough.{are_enough}
+use Rattle.wb_serve.proofs.Cut.{none_in_part, some_in_part}
 use Rattle.wb_serve.proofs.serving.play_all.Goals as goal
 use Rattle.wb_serve.proofs.serving.play_all.Goals.{After-as_slice}
 

@@ -5,7 +5,7 @@ use Rattle.wb_geometry.specs.History.{HistoryEntry}
 use Rattle.wb_geometry.specs.Entering.{entered}
 use Rattle.wb_serve.specs.Playing.{IsWriteInside}
 use Rattle.wb_serve.proofs.Parts.{writes_inside, few_parts}
-use Rattle.wb_serve.proofs.Repeats.{length-repeated}
+use Rattle.wb_buffers.proofs.Repeats.{length-repeated}
 use Rattle.wb_serve.proofs.writing.write.Goals as goal
 
 pub entries_of-requires-clause-sized : goal.entries_of-requires-clause-sized

@@ -3,8 +3,8 @@ use Rattle.std.proofs.Common.{ℕ, List, ◌≡◌, ◌/◌, ◌++◌, ◌∙◌
 use Rattle.std.specs.List.{concat}
 use Rattle.std.proofs.lemmas.Result.{on_ok_weaker}
 use Rattle.std.specs.Vec.{vec_len}
-use Rattle.wb_serve.proofs.Repeats.{repeated-one, repeated-push, repeated_is, resized}
-use Rattle.wb_serve.proofs.writing.repeat.Goals as goal
+use Rattle.wb_buffers.proofs.Repeats.{repeated-one, repeated-push, repeated_is, resized}
+use Rattle.wb_buffers.proofs.buffers.repeat.Goals as goal
 
 pub returns-in-len1 : goal.returns-in-len1
 returns-in-len1 c =
