@@ -1,0 +1,12 @@
+pub mod Appends
+pub mod Playing
+pub mod Gathered
+pub mod Ending
+pub mod Lines
+pub mod Awaiting
+pub mod Causes
+pub mod Passes
+pub mod Clients
+pub mod Fronts
+pub mod Tellers
+pub mod Newcomers

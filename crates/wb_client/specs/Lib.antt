@@ -1,0 +1,4 @@
+pub mod Played
+pub mod Done
+pub mod Ended
+pub mod Client
