@@ -1,9 +1,11 @@
 -- What a session leaves: the engine is opened, the requests are played, and it is closed.
-use Rattle.std.proofs.Common.{ℕ, ◌≡◌, ◌+◌, ◌-◌, ◌*◌, ◌/◌, ◌≤◌, ◌^◌, Bool, true, false, ◌||◌, List, length, [], All, Option, Some, None, Result, Ok, Err, IfOk, IfErr, refl, ap, sym, ◌∙◌, subst, arith}
+use Rattle.std.proofs.Common.{ℕ, ◌≡◌, ◌+◌, ◌-◌, ◌*◌, ◌/◌, ◌≤◌, ◌^◌, Bool, true, false, ◌||◌, min, List, length, [], ◌∷◌, All, Option, Some, None, Result, Ok, Err, IfOk, IfErr, refl, ap, sym, ◌∙◌, subst, arith}
 use Rattle.std.specs.List.{slice_index_or}
 use Rattle.std.proofs.Math.Nat.{div-mul-le_self}
 use Rattle.std.proofs.lemmas.Nat.{le-div}
 use Rattle.std.proofs.lemmas.List.{take_all}
+use Rattle.std.proofs.lemmas.List.Elements.{All-nil, All-cons}
+use Rattle.std.proofs.lemmas.List.Sums.{sum-map, sum_by-cons}
 use Rattle.std.specs.declared.alloc.AllocError.{AllocError}
 use Rattle.wb_geometry.specs.History.{HistoryEntry}
 use Rattle.wb_geometry.specs.Layout.{places}
@@ -14,7 +16,7 @@ use Rattle.wb_geometry.specs.declared.which.Which.{Which}
 use Rattle.wb_geometry.specs.declared.which.Which.TheVariants.{Log, Backing}
 use Rattle.wb_script.specs.Content.{ScriptContent}
 use Rattle.wb_super.specs.declared.reading.Super.{Super}
-use Rattle.wb_script.specs.Transcripts.{covered}
+use Rattle.wb_script.specs.Transcripts.{failures, all_failures, covered}
 use Rattle.wb_script.proofs.Sessions.{one_history}
 use Rattle.wb_script.proofs.Clients.{AreServed-history}
 use Rattle.wb_script.specs.declared.request.Request.{Request}
@@ -23,7 +25,7 @@ use Rattle.wb_crash.specs.declared.numbers.Numbers.{Numbers}
 use Rattle.wb_engine.specs.Content.{EngineContent}
 use Rattle.wb_engine.specs.Opening.{IsOpened, recovered_to}
 use Rattle.wb_engine.specs.declared.opening.OpenCause.TheVariants as opening
-use Rattle.wb_serve.specs.Session.{Devices, devices, Report, report_of, covered_segment, last_segment, IsSession, EndFlushes, AreInTurn, IsServed, IsCutShort}
+use Rattle.wb_serve.specs.Session.{Devices, devices, Report, RoseBy, report_of, covered_segment, last_segment, IsSession, EndFlushes, AreInTurn, IsServed, IsCutShort}
 use Rattle.wb_engine.specs.Settling.{stable_places}
 use Rattle.wb_serve.specs.Playing.{AreAllPlayed, AreAllPlayedInPart, Tally, tally_of}
 use Rattle.wb_serve.specs.Ending.{is_down_by, TellsOf}
@@ -35,6 +37,17 @@ use Rattle.wb_serve.proofs.Crashes.{crash_around}
 use Rattle.wb_serve.proofs.Faults.{some_of, down_is, no_fault, either_false, second_true, end_later, cause_told}
 use Rattle.wb_serve.proofs.Openings.{some_opened, base_opened, told_opened}
 use Rattle.wb_serve.proofs.Closed.{IsCacheOf, Closes, end_changed, end_content, end_empty, end_crash}
+
+-- ---- the failures of reads
+
+-- where a count rose by those of all clients it rose by those of each
+failures_each : (device : Which) (before now : ℕ) (transcripts : List (List Line)) → RoseBy (all_failures device transcripts) before now
+    → All (λ lines. RoseBy (min (failures device lines) (2 ^ 31 - 1)) before now) transcripts
+failures_each device before now [] rose = All-nil (λ lines. RoseBy (min (failures device lines) (2 ^ 31 - 1)) before now)
+failures_each device before now (lines ∷ transcripts) rose =
+    let sums : all_failures device (lines ∷ transcripts) ≡ failures device lines + all_failures device transcripts =
+    omega (arith, sum-map (failures device) (lines ∷ transcripts), sum-map (failures device) transcripts, sum_by-cons (failures device) lines transcripts) in
+    All-cons (λ own. RoseBy (min (failures device own) (2 ^ 31 - 1)) before now) lines transcripts (omega (arith, rose, sums)) (failures_each device before now transcripts (omega (arith, rose, sums)))
 
 -- ---- the session
 
@@ -82,8 +95,8 @@ module _ {L B : Type 0} {of_log : L → State} {of_backing : B → State} {fault
           only = λ other is. one_history script transcripts (length h) other h is printed;
           few = p.few;
           legal = λ content is. (p.served content (told_opened opens content is)).legal;
-          log_failures = omega (arith, come.log_faults.failed, log_later, opens.log_faults);
-          backing_failures = omega (arith, come.backing_faults.failed, backing_later, opens.backing_faults);
+          log_failures = failures_each Log log.faults log_end.faults transcripts (omega (arith, come.log_faults.failed, log_later, opens.log_faults));
+          backing_failures = failures_each Backing backing.faults backing_end.faults transcripts (omega (arith, come.backing_faults.failed, backing_later, opens.backing_faults));
           down_full = λ device some.
               let full = (p.stopped_down device some).full in
               let room : places e.geometry * e.geometry.ram ≡ places found.geometry * found.geometry.ram = ap (λ (g : Geometry). places g * g.ram) geometry in
@@ -98,15 +111,17 @@ module _ {L B : Type 0} {of_log : L → State} {of_backing : B → State} {fault
               let left : places e.geometry * (2 ^ 48 - e.numbers.first) ≡ places found.geometry * (2 ^ 48 - recovered_to found) =
               ap (λ (g : Geometry). places g * (2 ^ 48 - e.numbers.first)) geometry ∙ ap (λ (n : ℕ). places found.geometry * (2 ^ 48 - n)) number in
               (p.tells.stopped some, places_are ∙ spent ∙ left);
-          changed = λ base is. end_changed base come closes (base_opened opens base is);
-          crash = λ base is. end_crash found (length h) covers base cache low come closes (base_opened opens base is);
-          content = λ log_fine fine base is. end_content base come closes (base_opened opens base is) (none log_fine fine);
-          empty = λ log_fine fine x some told. end_empty found (length h) cache come closes (some_opened opens some) (none log_fine fine) x told;
-          durable = λ log_fine fine. closes.durable (none log_fine fine) come.synced;
-          log_cause = subst (λ (before : ℕ). CountsFaultsWhere (log_failed ≡ true) before log_end.faults) opens.log_faults
-              (cause_told all.log_failed log_failed come.log_faults closes.log_faults p.tells.log_fails p.tells.log_fine log_flag);
-          backing_cause = subst (λ (before : ℕ). CountsFaultsWhere (backing_failed ≡ true) before backing_end.faults) opens.backing_faults
-              (cause_told all.backing_failed backing_failed come.backing_faults closes.backing_faults p.tells.backing_fails p.tells.backing_fine backing_flag);
+          leaves = record {
+            changed = λ base is. end_changed base come closes (base_opened opens base is);
+            crash = λ base is. end_crash found (length h) covers base cache low come closes (base_opened opens base is);
+            content = λ log_fine fine base is. end_content base come closes (base_opened opens base is) (none log_fine fine);
+            empty = λ log_fine fine x some told. end_empty found (length h) cache come closes (some_opened opens some) (none log_fine fine) x told;
+            durable = λ log_fine fine. closes.durable (none log_fine fine) come.synced;
+            log_cause = subst (λ (before : ℕ). CountsFaultsWhere (log_failed ≡ true) before log_end.faults) opens.log_faults
+                (cause_told all.log_failed log_failed come.log_faults closes.log_faults p.tells.log_fails p.tells.log_fine log_flag);
+            backing_cause = subst (λ (before : ℕ). CountsFaultsWhere (backing_failed ≡ true) before backing_end.faults) opens.backing_faults
+                (cause_told all.backing_failed backing_failed come.backing_faults closes.backing_faults p.tells.backing_fails p.tells.backing_fine backing_flag);
+          };
         },
         refl,
       )
@@ -128,6 +143,8 @@ module _ {L B : Type 0} {of_log : L → State} {of_backing : B → State} {fault
             let full = by.full in
             let room : places e.geometry * e.geometry.ram ≡ places opens.found.geometry * opens.found.geometry.ram = ap (λ (g : Geometry). places g * g.ram) geometry in
             (by.down, omega (arith, full, room, come.places));
+        log_failures = let later = end_later closes.log_faults in omega (arith, come.log_faults.failed, later, opens.log_faults);
+        backing_failures = let later = end_later closes.backing_faults in omega (arith, come.backing_faults.failed, later, opens.backing_faults);
         log_down = λ down.
             let rose = come.log_faults.goes_down (λ none. cc) down in let later = end_later closes.log_faults in
             omega (arith, rose, later, opens.log_faults);
@@ -200,13 +217,15 @@ uncovered {found} {script} {before} {after} {report} session = record {
   undone_backing = session.undone_backing;
   ids_told = session.ids_told;
   ids_spent = session.ids_spent;
-  changed = session.changed;
-  crash = λ base is. crash_around (covered_segment found 0) (last_segment found report.taken) (fewer found report.covered) (omega arith) (session.crash base is);
-  content = session.content;
-  empty = session.empty;
-  durable = session.durable;
-  log_cause = session.log_cause;
-  backing_cause = session.backing_cause;
+  leaves = record {
+    changed = session.leaves.changed;
+    crash = λ base is. crash_around (covered_segment found 0) (last_segment found report.taken) (fewer found report.covered) (omega arith) (session.leaves.crash base is);
+    content = session.leaves.content;
+    empty = session.leaves.empty;
+    durable = session.leaves.durable;
+    log_cause = session.leaves.log_cause;
+    backing_cause = session.leaves.backing_cause;
+  };
 }
   where
     fewer : (found : Super) (covers : ℕ) → covered_segment found 0 ≤ covered_segment found covers

@@ -10,7 +10,7 @@ use Rattle.wb_geometry.specs.declared.geometry.Geometry.{Geometry}
 use Rattle.wb_geometry.specs.declared.which.Which.{Which}
 use Rattle.wb_geometry.specs.declared.which.Which.TheVariants.{Log, Backing}
 use Rattle.wb_script.specs.Content.{ScriptContent}
-use Rattle.wb_script.specs.Transcripts.{IsHistory, AreLegal, no_notes, all_printed, all_failures, covered, HasStop, IsUnflushed}
+use Rattle.wb_script.specs.Transcripts.{IsHistory, AreLegal, no_notes, all_printed, failures, all_failures, covered, HasStop, IsUnflushed}
 use Rattle.wb_script.specs.declared.request.Request.{Request}
 use Rattle.wb_script.specs.declared.transcript.Ended.{Ended}
 use Rattle.wb_script.specs.declared.transcript.Line.{Line}
@@ -83,6 +83,23 @@ report_of session = record {
 abbrev pub IsBase : Super → Devices → Image → Type 0
 IsBase found before base = (x : Image) × (y : Image) × MakesOf found.geometry x y base before.log before.backing
 
+-- What a session with this history leaves of the devices. It took so many places, and so many of them a flush covers that was
+-- done. The flags say of each device whether it failed.
+pub record SessionLeaves (found : Super) (before now : Devices) (history : List HistoryEntry) (covers taken : ℕ) (log_failed backing_failed : Bool) : Type 0 where
+  -- no sector of the base image changes but to what an entry of the history writes
+  pub changed : (base : Image) → IsBase found before base → (image : Image) × (now.backing.content ≡ Some image) × PutsPartly history base image
+  -- recovery makes of whatever a crash now leaves the image after exactly the first segments, up to some segment, which is none
+  -- before the last that a flush covers that was done
+  pub crash : (base : Image) → IsBase found before base
+      → CrashNow found.geometry (line_of (places found.geometry) (recovered_to found) base history) (covered_segment found covers) (last_segment found taken) now.log now.backing
+  -- where neither device failed the whole history is put and recorded, recovery finds no segment, and a crash leaves it so
+  pub content : log_failed ≡ false → backing_failed ≡ false → (base : Image) → IsBase found before base → now.backing.content ≡ Some (after base history)
+  pub empty : log_failed ≡ false → backing_failed ≡ false → (x : Image) → IsSome before.log.content → now.log.content ≡ Some x
+      → IsChain found.geometry x [] × (record_of x ≡ last_segment found taken)
+  pub durable : log_failed ≡ false → backing_failed ≡ false → NothingPending now.log × NothingPending now.backing
+  pub log_cause : CountsFaultsWhere (log_failed ≡ true) before.log.faults now.log.faults
+  pub backing_cause : CountsFaultsWhere (backing_failed ≡ true) before.backing.faults now.backing.faults
+
 -- A session of this script, over a cache with this superblock. The history is that of the transcripts. The flags say that a
 -- write was stopped for want of an id, and that a device failed.
 pub record IsSession (found : Super) (script : ScriptContent) (before now : Devices) (report : Report) : Type 0 where
@@ -96,9 +113,10 @@ pub record IsSession (found : Super) (script : ScriptContent) (before now : Devi
   pub few : report.taken ≤ 160 * sum (map length script.requests)
   -- whether there is a base image or not
   pub legal : (content : Option Image) → IfSome content (IsBase found before) → AreLegal content history 0 no_notes script.requests report.transcripts
-  -- no more lines say that a read of a device failed than it failed
-  pub log_failures : RoseBy (all_failures Log report.transcripts) before.log.faults now.log.faults
-  pub backing_failures : RoseBy (all_failures Backing report.transcripts) before.backing.faults now.backing.faults
+  -- No more lines of a client say that a read of a device failed than it failed. This is said of each client, not of all
+  -- together: a part that counts them stands at its last value from then on.
+  pub log_failures : All (λ lines. RoseBy (min (failures Log lines) (2 ^ 31 - 1)) before.log.faults now.log.faults) report.transcripts
+  pub backing_failures : All (λ lines. RoseBy (min (failures Backing lines) (2 ^ 31 - 1)) before.backing.faults now.backing.faults) report.transcripts
   -- a write is stopped by a device only where that failed, and all segments in memory were full
   pub down_full : (device : Which) → IsStopped (Down device) report.transcripts → places found.geometry * found.geometry.ram ≤ report.taken
   pub down_log : IsStopped (Down Log) report.transcripts → report.log_failed ≡ true
@@ -109,19 +127,7 @@ pub record IsSession (found : Super) (script : ScriptContent) (before now : Devi
   -- and a write is stopped for want of an id only once all are spent
   pub ids_told : report.ids ≡ true → IsStopped Ids report.transcripts
   pub ids_spent : IsStopped Ids report.transcripts → (report.ids ≡ true) × (report.taken ≡ places found.geometry * (2 ^ 48 - recovered_to found))
-  -- no sector of the base image changes but to what an entry of the history writes
-  pub changed : (base : Image) → IsBase found before base → (image : Image) × (now.backing.content ≡ Some image) × PutsPartly history base image
-  -- recovery makes of whatever a crash now leaves the image after exactly the first segments, up to some segment, which is none
-  -- before the last that a flush covers that was done
-  pub crash : (base : Image) → IsBase found before base
-      → CrashNow found.geometry (line_of (places found.geometry) (recovered_to found) base history) (covered_segment found report.covered) (last_segment found report.taken) now.log now.backing
-  -- where neither device failed the whole history is put and recorded, recovery finds no segment, and a crash leaves it so
-  pub content : report.log_failed ≡ false → report.backing_failed ≡ false → (base : Image) → IsBase found before base → now.backing.content ≡ Some (after base history)
-  pub empty : report.log_failed ≡ false → report.backing_failed ≡ false → (x : Image) → IsSome before.log.content → now.log.content ≡ Some x
-      → IsChain found.geometry x [] × (record_of x ≡ last_segment found report.taken)
-  pub durable : report.log_failed ≡ false → report.backing_failed ≡ false → NothingPending now.log × NothingPending now.backing
-  pub log_cause : CountsFaultsWhere (report.log_failed ≡ true) before.log.faults now.log.faults
-  pub backing_cause : CountsFaultsWhere (report.backing_failed ≡ true) before.backing.faults now.backing.faults
+  pub leaves : SessionLeaves found before now history report.covered report.taken report.log_failed report.backing_failed
 
 -- ---- clients that are served one after another
 
@@ -159,6 +165,9 @@ pub record AreInTurn (found : Super) (script : ScriptContent) (before now : Devi
   -- a write is stopped by a device only where that is why the cache is down, and all segments in memory are full behind the
   -- stable ones
   pub stopped : (device : Which) → IsStopped (Down device) report.transcripts → (down ≡ Some device) × (stable + places found.geometry * found.geometry.ram ≤ report.taken)
+  -- no more lines of all clients say that a read of a device failed than it failed
+  pub log_failures : RoseBy (all_failures Log report.transcripts) before.log.faults now.log.faults
+  pub backing_failures : RoseBy (all_failures Backing report.transcripts) before.backing.faults now.backing.faults
   -- the device failed once more than in reads
   pub log_down : down ≡ Some Log → RoseBy (all_failures Log report.transcripts + 1) before.log.faults now.log.faults
   pub backing_down : down ≡ Some Backing → RoseBy (all_failures Backing report.transcripts + 1) before.backing.faults now.backing.faults

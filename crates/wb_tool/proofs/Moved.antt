@@ -1,5 +1,6 @@
 -- What is said of a log holds of it before it was read.
 use Rattle.std.proofs.Common.{◌≡◌, ◌≤◌, ℕ, List, subst, ◌∙◌, refl, Option, Some, None, IfSome}
+use Rattle.wb_geometry.specs.History.{HistoryEntry}
 use Rattle.wb_geometry.specs.Image.{Image}
 use Rattle.wb_geometry.specs.Device.{State, IsDevice, OnlyRead}
 use Rattle.wb_geometry.specs.Layout.{log_sectors}
@@ -13,7 +14,7 @@ use Rattle.wb_script.specs.Content.{ScriptContent}
 use Rattle.wb_replay.specs.declared.replaying.ReplayStop.{ReplayStop}
 use Rattle.wb_engine.specs.Opening.{MayOpen, Goes, HasRecovered, HasStopped}
 use Rattle.wb_engine.proofs.Openings.{goes_opened, recovered_opened, stopped_opened}
-use Rattle.wb_serve.specs.Session.{Devices, Report, IsBase, IsSession, IsCutShort}
+use Rattle.wb_serve.specs.Session.{Devices, Report, IsBase, IsSession, AreInTurn, IsCutShort}
 use Rattle.wb_tool.specs.Run.{Run}
 use Rattle.wb_tool.specs.Served.{ServedTelling}
 
@@ -106,13 +107,29 @@ session_before old mid after found script report read kept session = record {
   undone_backing = session.undone_backing;
   ids_told = session.ids_told;
   ids_spent = session.ids_spent;
-  changed = λ base is. session.changed base (base_after old mid found base read is);
-  crash = λ base is. session.crash base (base_after old mid found base read is);
-  content = λ log_fine fine base is. session.content log_fine fine base (base_after old mid found base read is);
-  empty = rw read.content at session.empty;
-  durable = session.durable;
-  log_cause = rw kept at session.log_cause;
-  backing_cause = session.backing_cause;
+  leaves = record {
+    changed = λ base is. session.leaves.changed base (base_after old mid found base read is);
+    crash = λ base is. session.leaves.crash base (base_after old mid found base read is);
+    content = λ log_fine fine base is. session.leaves.content log_fine fine base (base_after old mid found base read is);
+    empty = rw read.content at session.leaves.empty;
+    durable = session.leaves.durable;
+    log_cause = rw kept at session.leaves.log_cause;
+    backing_cause = session.leaves.backing_cause;
+  };
+}
+
+abbrev turn_before : (old : State) (mid after : Devices) (found : Super) (script : ScriptContent) (report : Report) (h : List HistoryEntry) → mid.log.faults ≡ old.faults
+    → AreInTurn found script mid after report h → AreInTurn found script (earlier old mid) after report h
+turn_before old mid after found script report h kept turn = record {
+  once = turn.once;
+  down = turn.down;
+  stable = turn.stable;
+  flushed = turn.flushed;
+  stopped = turn.stopped;
+  log_failures = rw kept at turn.log_failures;
+  backing_failures = turn.backing_failures;
+  log_down = rw kept at turn.log_down;
+  backing_down = turn.backing_down;
 }
 
 pub cut_before : (old : State) (mid after : Devices) (found : Super) (script : ScriptContent) → OnlyRead old mid.log → mid.log.faults ≡ old.faults → IsCutShort found script mid after
@@ -133,5 +150,6 @@ served_before front text script old run read kept served = record {
   log_failed = served.log_failed;
   backing_failed = served.backing_failed;
   session = session_before old run.before run.after served.found script _ read kept served.session;
+  in_turn = turn_before old run.before run.after served.found script _ served.session.history kept served.in_turn;
   ends = served.ends;
 }

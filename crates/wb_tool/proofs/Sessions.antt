@@ -4,10 +4,10 @@ use Rattle.wb_geometry.specs.Device.{CountsFaultsWhere}
 use Rattle.wb_super.specs.declared.reading.Super.{Super}
 use Rattle.wb_script.specs.Content.{ScriptContent}
 use Rattle.wb_script.specs.Transcripts.{covered}
-use Rattle.wb_serve.specs.Session.{Report, IsSession}
+use Rattle.wb_serve.specs.Session.{Report, IsSession, AreInTurn}
 use Rattle.wb_serve.proofs.Servings.{cut_nowhere}
 use Rattle.wb_tool.specs.Run.{Lent, Run, EndsTelling}
-use Rattle.wb_tool.specs.Served.{EndsSession, ServedTelling}
+use Rattle.wb_tool.specs.Served.{EndsSession, ServedTelling, report_by}
 use Rattle.wb_tool.specs.Ends.{Leaves, IsLeftBy, EndsServing}
 use Rattle.wb_tool.proofs.Accounts.{telling_not_6}
 
@@ -56,22 +56,24 @@ backing_is_7 sink status front text places ids log_failed backing_failed some ot
 
 module _ (front text : List ℕ) (script : ScriptContent) (run : Run) (found : Super) (ids log_failed backing_failed : Bool) where
   abbrev told : Report
-  told = record { transcripts = run.transcripts; taken = run.places; covered = covered run.transcripts; ids = ids; log_failed = log_failed; backing_failed = backing_failed }
+  told = report_by run ids log_failed backing_failed
 
-  session_ends : (Ends : Run → Type 0) → (ServedTelling front text script run → Ends run) → IsSession found script run.before run.after told
+  session_ends : (Ends : Run → Type 0) → (ServedTelling front text script run → Ends run) → (session : IsSession found script run.before run.after told)
+      → AreInTurn found script run.before run.after told session.history
       → (run.status ≡ 1) ⊎ EndsSession run.sink run.status front text run.places ids log_failed backing_failed → (run.status ≡ 1) ⊎ EndsServing Ends script.sectors run
-  session_ends Ends served session (inl one) = inl one
-  session_ends Ends served session (inr ends) =
-      inr (inr (inr (served (record { found = found; ids = ids; log_failed = log_failed; backing_failed = backing_failed; session = session; ends = ends }))))
+  session_ends Ends served session turn (inl one) = inl one
+  session_ends Ends served session turn (inr ends) =
+      inr (inr (inr (served (record { found = found; ids = ids; log_failed = log_failed; backing_failed = backing_failed; session = session; in_turn = turn; ends = ends }))))
 
-  pub session_leaves : (Ends : Run → Type 0) → (ServedTelling front text script run → Ends run) → IsSession found script run.before run.after told
+  pub session_leaves : (Ends : Run → Type 0) → (ServedTelling front text script run → Ends run) → (session : IsSession found script run.before run.after told)
+      → AreInTurn found script run.before run.after told session.history
       → (run.status ≡ 1) ⊎ EndsSession run.sink run.status front text run.places ids log_failed backing_failed → Leaves (EndsServing Ends script.sectors) (IsLeftBy script) run
-  session_leaves Ends served session ends = record {
+  session_leaves Ends served session turn ends = record {
     log_faults = λ some. counts_same (log_failed ≡ true) (run.status ≡ 6) run.before.log.faults run.after.log.faults
-        (log_is_6 run.sink run.status front text run.places ids log_failed backing_failed some ends) (log_at_6 run.sink run.status front text run.places ids log_failed backing_failed ends) session.log_cause;
+        (log_is_6 run.sink run.status front text run.places ids log_failed backing_failed some ends) (log_at_6 run.sink run.status front text run.places ids log_failed backing_failed ends) session.leaves.log_cause;
     backing_faults = λ some other. counts_same (backing_failed ≡ true) (run.status ≡ 7) run.before.backing.faults run.after.backing.faults
         (backing_is_7 run.sink run.status front text run.places ids log_failed backing_failed some other ends)
-        (backing_at_7 run.sink run.status front text run.places ids log_failed backing_failed ends) session.backing_cause;
+        (backing_at_7 run.sink run.status front text run.places ids log_failed backing_failed ends) session.leaves.backing_cause;
     wanting = λ is. inr (inr (found, cut_nowhere session));
-    ends = session_ends Ends served session ends;
+    ends = session_ends Ends served session turn ends;
   }

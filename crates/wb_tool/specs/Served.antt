@@ -5,7 +5,7 @@ use Rattle.wb_super.specs.declared.reading.Super.{Super}
 use Rattle.wb_script.specs.Content.{ScriptContent}
 use Rattle.wb_script.specs.Output.{session_text}
 use Rattle.wb_script.specs.Transcripts.{covered}
-use Rattle.wb_serve.specs.Session.{IsSession}
+use Rattle.wb_serve.specs.Session.{Report, IsSession, AreInTurn}
 use Rattle.wb_tool.specs.Run.{Lent, Run, Took, EndsTelling}
 use Rattle.wb_tool.specs.Texts.{failed_line, spent_line}
 
@@ -22,6 +22,17 @@ EndsSession sink status front text places ids log_failed backing_failed =
     ⊎ (IsFine log_failed backing_failed × (ids ≡ true) × (status ≡ 10) × Took sink (front ++ spent_line places))
     ⊎ (IsFine log_failed backing_failed × (ids ≡ false) × EndsTelling sink status text)
 
+-- what a run tells of its session, with these flags
+abbrev pub report_by : Run → (ids log_failed backing_failed : Bool) → Report
+report_by run ids log_failed backing_failed = record {
+  transcripts = run.transcripts;
+  taken = run.places;
+  covered = covered run.transcripts;
+  ids = ids;
+  log_failed = log_failed;
+  backing_failed = backing_failed;
+}
+
 -- A session of this script, which began, and ended by telling this text, or a fault line behind this front. At the statuses
 -- 0, 5 and 10 neither device failed, so the whole history is put.
 pub record ServedTelling (front text : List ℕ) (script : ScriptContent) (run : Run) : Type 0 where
@@ -29,14 +40,9 @@ pub record ServedTelling (front text : List ℕ) (script : ScriptContent) (run :
   pub ids : Bool
   pub log_failed : Bool
   pub backing_failed : Bool
-  pub session : IsSession found script run.before run.after (record {
-    transcripts = run.transcripts;
-    taken = run.places;
-    covered = covered run.transcripts;
-    ids = ids;
-    log_failed = log_failed;
-    backing_failed = backing_failed;
-  })
+  pub session : IsSession found script run.before run.after (report_by run ids log_failed backing_failed)
+  -- its clients were served one after another
+  pub in_turn : AreInTurn found script run.before run.after (report_by run ids log_failed backing_failed) session.history
   pub ends : EndsSession run.sink run.status front text run.places ids log_failed backing_failed
 
 -- The same of a session that tells its answers, which stand before a fault line too.

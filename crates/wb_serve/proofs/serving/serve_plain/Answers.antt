@@ -58,8 +58,8 @@ returns g c =
     record {
       session = session;
       unserved = IfErr-weaker c.session_of.result _ _ (λ why is. subst unserved (sym is) (inl (refl, (opens.found, cut)))) memory;
-      log_cause = λ other. says_fault SaysLogFault c.session_of.result _ _ (IfOk-weaker c.session_of.result _ _ (λ s is. is.1.is.log_cause) session) memory other;
-      backing_cause = λ other. says_fault SaysBackingFault c.session_of.result _ _ (IfOk-weaker c.session_of.result _ _ (λ s is. is.1.is.backing_cause) session) memory other;
+      log_cause = λ other. says_fault SaysLogFault c.session_of.result _ _ (IfOk-weaker c.session_of.result _ _ (λ s is. is.1.is.leaves.log_cause) session) memory other;
+      backing_cause = λ other. says_fault SaysBackingFault c.session_of.result _ _ (IfOk-weaker c.session_of.result _ _ (λ s is. is.1.is.leaves.backing_cause) session) memory other;
     }
 
 pub returns-then-found-parsed-clause-unserved : goal.returns-then-found-parsed-clause-unserved

@@ -6,7 +6,7 @@ use Rattle.wb_tool.proofs.serving.serve_script.Goals as goal
 pub returns-in-Ok : goal.returns-in-Ok
 returns-in-Ok g c source =
     let served = rw c.in-Ok.is at c.serve_plain-log.ensures.session in
-    session_leaves _ _ _ _ _ _ _ _ (Served c.args.script.now) (λ told. told) served.1.is c.report-status.ensures
+    session_leaves _ _ _ _ _ _ _ _ (Served c.args.script.now) (λ told. told) served.1.is served.1.in_turn c.report-status.ensures
 
 pub returns-in-Err : goal.returns-in-Err
 returns-in-Err g c source =

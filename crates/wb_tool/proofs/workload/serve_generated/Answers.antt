@@ -9,7 +9,7 @@ returns-in-Ok g c source =
     let session = c.in-Ok.session in
     let concluded = c.conclude-status.ensures in
     generated_concluded c.args.numbers c.args.script.now source _ _ _ _ _ _ _ session.transcripts.items session.places session.ids session.log_failed session.backing_failed served.0
-    c.requires.generated served.1.is concluded.read (rw c.sectors.ensures at concluded.ends)
+    c.requires.generated served.1.is served.1.in_turn concluded.read (rw c.sectors.ensures at concluded.ends)
 
 pub returns-in-Err : goal.returns-in-Err
 returns-in-Err g c source =
