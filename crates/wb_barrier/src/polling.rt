@@ -19,6 +19,7 @@ pub fn poll(intake: &Intake, pass: &mut Pass, ticket: Ticket) -> Result<Receipt,
     ensures saw { Saw (view_of pass.old) (view_of pass.new) }
     ensures loaded { IsLoaded (loads_of pass.old).stable (loads_of pass.new).stable (view_of pass.new).seen.stable }
     ensures cell { (loads_of pass.new).cell ≡ (loads_of pass.old).cell }
+    ensures fault { (loads_of pass.old).fault.count ≤ (loads_of pass.new).fault.count }
     ensures receipt { IfOk result (λ r. IsDone ticket (view_of pass.new).seen.stable r) }
     ensures pending { IfErr result (λ p. IsPending ticket (view_of pass.new).seen.stable p) }
 {

@@ -5,6 +5,7 @@ use Rattle.wb_geometry.specs.History.{HistoryEntry, PutsPartly}
 use Rattle.wb_geometry.specs.Image.{Image}
 use Rattle.wb_geometry.specs.declared.which.Which.TheVariants.{Log, Backing}
 use Rattle.wb_steps.specs.Rule.{shape_of}
+use Rattle.wb_steps.specs.declared.view.Faults.{Faults}
 use Rattle.wb_intake.specs.Carried.{Carried}
 use Rattle.wb_intake.specs.Passes.{name_of, numbers_of, drain_name, drain_view}
 use Rattle.wb_intake.specs.declared.board.Intake.{Intake}
@@ -22,6 +23,10 @@ pub record CoreContent (L B : Type 0) : Type 0 where
 -- the history: the entries that were drained
 abbrev pub drained : {L B : Type 0} → CoreContent L B → List HistoryEntry
 drained c = (drain_view c.drain).known
+
+-- what the fault word says
+abbrev pub fault_of : {L B : Type 0} → CoreContent L B → Faults
+fault_of c = (drain_view c.drain).seen.fault
 
 -- the intake is that of the name
 abbrev pub IsIntakeOf : Carried → Intake → Type 0

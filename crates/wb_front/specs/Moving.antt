@@ -6,13 +6,14 @@ use Rattle.wb_steps.specs.Faults.{IsPartwiseAtMost}
 use Rattle.wb_steps.specs.declared.view.Faults.{Faults}
 use Rattle.wb_steps.specs.declared.view.View.{View}
 use Rattle.wb_engine.specs.Standing.{IsOffDevices}
-use Rattle.wb_front.specs.Joined.{CoreContent, drained}
+use Rattle.wb_front.specs.Joined.{CoreContent, drained, fault_of}
 
--- more was drained and absorbed, by which segments were sealed, and nothing else was done
+-- more was drained and absorbed, by which segments were sealed, and nothing else was done. The fault word is as it was.
 pub record HasDrained {L B : Type 0} (old new : CoreContent L B) : Type 0 where
   pub more : IsPrefix (drained old) (drained new)
   pub numbers : new.engine.numbers ≡ record old.engine.numbers { sealed = new.engine.numbers.sealed }
   pub kept : IsOffDevices old.engine new.engine
+  pub fault : fault_of new ≡ fault_of old
 
 -- the drain published these numbers
 abbrev pub publishing : View → (limit stable : ℕ) → Faults → View

@@ -73,13 +73,26 @@ IsWriteCause k before now w taken cause.Memory = taken ≡ 0
 IsWriteCause k before now w taken (cause.IdsSpent cursor) = (2 ^ 48 < segment_at k cursor) × IsLoaded before.cursor now.cursor cursor × (w.seen.cursor ≡ cursor)
 IsWriteCause k before now w taken (cause.Down device) = IsFullAndDown before now w device
 
--- A flush of this number isn't done: the engine is down by the device, and fewer places are stable. The pass has seen both.
-pub record IsUndone (before now : Loads) (w : View) (number : ℕ) (d : Down) : Type 0 where
+-- Fewer than so many places were stable, and the engine was down by the device, as the words told that were loaded between the
+-- two. The pass has then seen both.
+pub record IsShort (before now : Loads) (w : View) (number : ℕ) (d : Down) : Type 0 where
   pub number_is : d.number ≡ number
   pub loaded : IsLoaded before.stable now.stable d.stable
   pub seen : w.seen.stable ≡ d.stable
   pub short : d.stable < number
+  pub word : ℕ
+  pub fault : IsLoaded before.fault now.fault word
+  pub seen_fault : w.seen.fault ≡ parts_of word
   pub down : down_part d.device w.seen.fault ≡ 1
+
+-- A flush of this number isn't done: fewer places are stable, and the engine is down by the device. The words told so twice, so
+-- the later stable number was loaded after a fault word that told that the engine is down, behind which none more becomes stable.
+pub record IsUndone (before now : Loads) (w : View) (number : ℕ) (d : Down) : Type 0 where
+  pub between : Loads
+  pub seen : View
+  pub first : Down
+  pub once : IsShort before between seen number first
+  pub again : IsShort between now w number d
 
 -- ---- the pieces of a write
 

@@ -1,5 +1,5 @@
 -- What the fault word tells of the devices.
-use Rattle.std.specs.Prelude.{ℕ, ◌≡◌, ◌⊎◌, ◌+◌, ◌-◌, ◌^◌, ◌≤◌, min, Option, None, Some}
+use Rattle.std.specs.Prelude.{ℕ, ◌≡◌, ◌⊎◌, ◌+◌, ◌-◌, ◌^◌, ◌≤◌, min, Option, None, Some, Result, Err}
 use Rattle.wb_geometry.specs.Device.{CountsFaultsWhere}
 use Rattle.wb_geometry.specs.declared.which.Which.{Which}
 use Rattle.wb_geometry.specs.declared.which.Which.TheVariants.{Log, Backing}
@@ -33,8 +33,20 @@ pub record CountsReads (Failed : Type 0) (before now : ℕ) : Type 0 where
   pub failed : Failed → now ≡ min (before + 1) (2 ^ 31 - 1)
   pub kept : (Failed → ⊥) → now ≡ before
 
+-- the counts of failed reads stay
+abbrev pub KeepsReads : (before now : Faults) → Type 0
+KeepsReads before now = (now.log_reads ≡ before.log_reads) × (now.backing_reads ≡ before.backing_reads)
+
+-- A read that ended so was counted where it failed, and nothing else of the word changed.
+pub record HasCounted {T : Type 0} (read : Result T Which) (before now : Faults) : Type 0 where
+  pub log_down : now.log_down ≡ before.log_down
+  pub backing_down : now.backing_down ≡ before.backing_down
+  pub log_reads : CountsReads (read ≡ Err Log) before.log_reads now.log_reads
+  pub backing_reads : CountsReads (read ≡ Err Backing) before.backing_reads now.backing_reads
+
 -- The parts of a device against its count of faults at the opening and now: one of them is there exactly where the count
--- rose, and no more reads failed than it rose by, unless it stands at its last value.
+-- rose; and the failed reads, with the failure by which the engine is down, are no more than it rose by, unless it stands at
+-- its last value.
 pub record TellsFaults (which : Which) (f : Faults) (opening now : ℕ) : Type 0 where
   pub cause : CountsFaultsWhere (HasFailed which f) opening now
-  pub reads : min (opening + reads_part which f) (2 ^ 64 - 1) ≤ now
+  pub reads : min (opening + reads_part which f + down_part which f) (2 ^ 64 - 1) ≤ now

@@ -10,7 +10,7 @@ ghost use Rattle.wb_barrier.specs.Tickets.{IsNumbered, LoadsCursorAlone, HasPost
 ghost use Rattle.wb_engine.specs.Settling.{stable_places};
 ghost use Rattle.wb_front.specs.Words.{down_part};
 ghost use Rattle.wb_front.specs.Joined.{drained, IsIntakeOf};
-ghost use Rattle.wb_front.specs.Requests.{IsPassOf, IsUndone};
+ghost use Rattle.wb_front.specs.Requests.{IsPassOf, IsShort, IsUndone};
 
 use crate::core_of::Core;
 use crate::front::Front;
@@ -51,6 +51,7 @@ impl<'g, L: Device, B: Device, G: Gate, T: Named> Front<'g, L, B, G, T> {
         ensures own { (pass_name pass.new ≡ pass_name pass.old) × (client_of_pass pass.new ≡ client_of_pass pass.old) }
         ensures saw { Saw (view_of pass.old) (view_of pass.new) }
         ensures loaded { IsLoaded (loads_of pass.old).stable (loads_of pass.new).stable (view_of pass.new).seen.stable }
+        ensures fault { (loads_of pass.old).fault.count ≤ (loads_of pass.new).fault.count }
         ensures receipt { IfOk result (λ r. IsDone ticket (view_of pass.new).seen.stable r) }
         ensures pending { IfErr result (λ p. IsPending ticket (view_of pass.new).seen.stable p) }
     {
@@ -59,7 +60,8 @@ impl<'g, L: Device, B: Device, G: Gate, T: Named> Front<'g, L, B, G, T> {
 
     /// Awaits a flush: polls, and while it is pending takes the lock, drains and settles. The number of the ticket is a whole
     /// number of segments, and no more than the cursor that the pass has seen. It may wait. An `Err` comes only where the
-    /// engine is down by that device and the stable number is below the ticket's. The pass has then seen both.
+    /// engine is down by that device and the stable number is below the ticket's: the pass has seen both, and has loaded the
+    /// stable number after a fault word that told that the engine was down.
     pub fn wait_flush<R: Wait>(
         &self,
         rt: &R,
@@ -97,7 +99,7 @@ impl<'g, L: Device, B: Device, G: Gate, T: Named> Front<'g, L, B, G, T> {
         requires own { IsPassOf T.carried pass.old }
         ensures own { (pass_name pass.new ≡ pass_name pass.old) × (client_of_pass pass.new ≡ client_of_pass pass.old) }
         ensures saw { Saw (view_of pass.old) (view_of pass.new) }
-        ensures loads { (loads_of pass.old).stable.count ≤ (loads_of pass.new).stable.count }
+        ensures loads { ((loads_of pass.old).stable.count ≤ (loads_of pass.new).stable.count) × ((loads_of pass.old).fault.count ≤ (loads_of pass.new).fault.count) }
         ensures undone { IfSome result (IsUndone (loads_of pass.old) (loads_of pass.new) (view_of pass.new) number) }
     {
         self.look_down(pass, number)?;
@@ -109,8 +111,8 @@ impl<'g, L: Device, B: Device, G: Gate, T: Named> Front<'g, L, B, G, T> {
         requires own { IsPassOf T.carried pass.old }
         ensures own { (pass_name pass.new ≡ pass_name pass.old) × (client_of_pass pass.new ≡ client_of_pass pass.old) }
         ensures saw { Saw (view_of pass.old) (view_of pass.new) }
-        ensures loads { (loads_of pass.old).stable.count ≤ (loads_of pass.new).stable.count }
-        ensures undone { IfSome result (IsUndone (loads_of pass.old) (loads_of pass.new) (view_of pass.new) number) }
+        ensures loads { ((loads_of pass.old).stable.count ≤ (loads_of pass.new).stable.count) × ((loads_of pass.old).fault.count ≤ (loads_of pass.new).fault.count) }
+        ensures short { IfSome result (IsShort (loads_of pass.old) (loads_of pass.new) (view_of pass.new) number) }
     {
         let look = self.intake.look(pass);
         if look.stable >= number {

@@ -10,5 +10,6 @@ invariant-loop g l = record {
   client : client_of_pass l.pass ≡ client_of_pass l.fn.pass;
   saw : Saw (view_of l.fn.pass) (view_of l.pass);
   loads : (loads_of l.fn.pass).stable.count ≤ (loads_of l.pass).stable.count;
+  faults : (loads_of l.fn.pass).fault.count ≤ (loads_of l.pass).fault.count;
   ticket : l.ticket ≡ l.fn.ticket;
 }
