@@ -27,7 +27,7 @@ use Rattle.wb_front.specs.declared.opening.Ready.{Ready}
 pub tells_none : (which : Which) (opening now : ℕ) → now ≡ opening → TellsFaults which (faults_of None 0 0) opening now
 tells_none which opening now is = record {
   cause = record { later = omega (arith, is); failed = λ h. absurd (not_failed which h); kept = λ none. is };
-  reads = let none : reads_part which (faults_of None 0 0) ≡ 0 = no_reads which in omega (arith, is, none);
+  reads = let none : reads_part which (faults_of None 0 0) ≡ 0 = no_reads which in let up : down_part which (faults_of None 0 0) ≡ 0 = no_down which in omega (arith, is, none, up);
 }
   where
     no_reads : (w : Which) → reads_part w (faults_of None 0 0) ≡ 0

@@ -284,6 +284,20 @@ module _ {L B : Type 0} (of_log : L → State) (of_backing : B → State) (t : C
         put.1 ∙ ap (λ (x : Image). Some x) (closes.content none t.base h (j.stands log_told) put.0 put.1);
     empty = empty;
     durable = λ none. closes.durable none j.synced;
+    word = g;
+    seen = λ i p is. (at_get (λ q. IsShown (drain_view c.drain) (view_of q)) passes i p shown is).fault;
+    fault = record {
+      down = c.engine.down;
+      log_before = (of_log c.engine.log).faults;
+      backing_before = (of_backing c.engine.backing).faults;
+      says = j.fault;
+      log = j.log_faults;
+      backing = j.backing_faults;
+      stays = weaker_if c.engine.down _ (λ w. (f.fault ≡ Some w) × ((of_log f.log).faults ≡ (of_log c.engine.log).faults) × ((of_backing f.backing).faults ≡ (of_backing c.engine.backing).faults))
+          (λ w x. (x.0, ap (λ (y : L). (of_log y).faults) x.1, ap (λ (y : B). (of_backing y).faults) x.2)) closes.was_down;
+      log_fails = closes.log_cause;
+      backing_fails = closes.backing_cause;
+    };
     log_down = log_by_fault;
     backing_down = backing_by_fault;
     log_cause = flag_counts Log g f.log_failed t.log_faults (of_log c.engine.log).faults (of_log f.log).faults (IsFresh c.engine.down f.fault Log) j.log_faults log_counts log_raised (λ y. log_by_fault y.1) log_fails;

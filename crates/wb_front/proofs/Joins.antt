@@ -24,7 +24,7 @@ use Rattle.wb_engine.specs.Stepping.{Moves}
 use Rattle.wb_front.specs.Words.{faults_of, TellsFaults}
 use Rattle.wb_front.specs.Joined.{CoreContent, drained, IsJoined}
 use Rattle.wb_front.specs.Moving.{HasDrained, publishing, IsSameDrain}
-use Rattle.wb_front.proofs.Words.{log_reads_are, backing_reads_are, log_down_is, backing_down_is, is_log_down, is_backing_down, tells_more}
+use Rattle.wb_front.proofs.Words.{log_reads_are, backing_reads_are, log_down_is, backing_down_is, is_log_down, is_backing_down, went_down_log, went_down_backing, tells_more}
 
 -- ---- images
 
@@ -54,12 +54,12 @@ module _ {L B : Type 0} (of_log : L → State) (of_backing : B → State) (t : C
             (λ h. elim h [ inl d ↦ inl (log_down_is down a b d) | inr r ↦ inr (inr (subst (λ (n : ℕ). 1 ≤ n) (log_reads_are down a b) r)) ])
             (λ d. inl (let e = is_log_down down a b d in omega (arith, e)))
             (λ h. elim h [ inl d ↦ absurd (omega (arith, d)) | inr r ↦ inr (subst (λ (n : ℕ). 1 ≤ n) (sym (log_reads_are down a b)) r) ])
-            (log_reads_are down a b),
+            (log_reads_are down a b) (went_down_log down a b),
         tells_more Backing (faults_of None a b) (faults_of down a b) t.backing_faults backing_before backing_now backing' (down ≡ Some Backing) backing_counts
             (λ h. elim h [ inl d ↦ inl (backing_down_is down a b d) | inr r ↦ inr (inr (subst (λ (n : ℕ). 1 ≤ n) (backing_reads_are down a b) r)) ])
             (λ d. inl (let e = is_backing_down down a b d in omega (arith, e)))
             (λ h. elim h [ inl d ↦ absurd (omega (arith, d)) | inr r ↦ inr (subst (λ (n : ℕ). 1 ≤ n) (sym (backing_reads_are down a b)) r) ])
-            (backing_reads_are down a b),
+            (backing_reads_are down a b) (went_down_backing down a b),
       )
 
   -- The engine made turns, and its numbers were published.

@@ -20,7 +20,8 @@ use Rattle.wb_intake.specs.Belongs.{Saw}
 use Rattle.wb_intake.specs.declared.sight.Loads.{Loads}
 use Rattle.wb_front.specs.Words.{reads_part, ReadsRose}
 use Rattle.wb_front.specs.Moving.{HasRead}
-use Rattle.wb_front.specs.Requests.{at_places, Rises, HasPut, IsFullAndDown, IsWriteCause, IsSince, written}
+use Rattle.wb_front.specs.Requests.{at_places, Rises, HasPut, IsFullAndDown, IsShort, IsUndone, IsWriteCause, IsSince, written}
+use Rattle.wb_front.specs.declared.flushing.Down.{Down}
 use Rattle.wb_front.specs.declared.writing.Piece.{Piece}
 use Rattle.wb_front.specs.declared.writing.WriteCause.{WriteCause}
 use Rattle.wb_front.specs.declared.writing.WriteCause.TheVariants as because
@@ -249,3 +250,29 @@ waiting n limit a l s first ram some is sealed low =
       λ h. let lt' : x - ram < y = ltb-true (x - ram) y h in omega (arith, e', s', lt', low),
       λ h. let le' : y ≤ x - ram = ltb-false (x - ram) y h in omega (arith, e', s', le', low),
     )
+
+-- ---- flushes that aren't done
+
+-- what was loaded since a later moment was loaded since an earlier one
+short_sooner : (before later now : Loads) (w : View) (number : ℕ) (d : Down) → before.stable.count ≤ later.stable.count → before.fault.count ≤ later.fault.count
+    → IsShort later now w number d → IsShort before now w number d
+short_sooner before later now w number d stable fault s = record {
+  number_is = s.number_is;
+  loaded = (let rose = s.loaded.0 in omega (arith, rose, stable), s.loaded.1);
+  seen = s.seen;
+  short = s.short;
+  word = s.word;
+  fault = (let rose = s.fault.0 in omega (arith, rose, fault), s.fault.1);
+  seen_fault = s.seen_fault;
+  down = s.down;
+}
+
+pub undone_sooner : (before later now : Loads) (w : View) (number : ℕ) (d : Down) → before.stable.count ≤ later.stable.count → before.fault.count ≤ later.fault.count
+    → IsUndone later now w number d → IsUndone before now w number d
+undone_sooner before later now w number d stable fault u = record {
+  between = u.between;
+  seen = u.seen;
+  first = u.first;
+  once = short_sooner before later u.between u.seen number u.first stable fault u.once;
+  again = u.again;
+}

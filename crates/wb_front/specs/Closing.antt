@@ -1,16 +1,18 @@
 -- What closing a front leaves.
-use Rattle.std.specs.Prelude.{ℕ, ◌≡◌, ◌+◌, ◌-◌, ◌*◌, ◌/◌, ◌^◌, ◌<◌, ◌≤◌, min, true, List, [], length, slice_get, All, Some, None}
+use Rattle.std.specs.Prelude.{ℕ, ◌≡◌, ◌+◌, ◌-◌, ◌*◌, ◌/◌, ◌^◌, ◌<◌, ◌≤◌, min, true, List, [], length, slice_get, All, Option, Some, None, IfSome}
 use Rattle.wb_geometry.specs.Image.{Image}
 use Rattle.wb_geometry.specs.Device.{State, CountsFaultsWhere, NothingPending}
 use Rattle.wb_geometry.specs.History.{HistoryEntry, client_of, after, PutsPartly}
 use Rattle.wb_geometry.specs.Layout.{places}
 use Rattle.wb_geometry.specs.Line.{line_of}
+use Rattle.wb_geometry.specs.declared.which.Which.{Which}
 use Rattle.wb_geometry.specs.declared.which.Which.TheVariants.{Log, Backing}
 use Rattle.wb_super.specs.Superblock.{SuperText, record_of}
 use Rattle.wb_crash.specs.Chain.{IsChain}
 use Rattle.wb_crash.specs.Crash.{CrashNow}
 use Rattle.wb_steps.specs.Faults.{IsPartwiseAtMost}
 use Rattle.wb_steps.specs.Views.{IsPrefix, placed}
+use Rattle.wb_steps.specs.declared.view.Faults.{Faults}
 use Rattle.wb_steps.specs.declared.view.View.{View}
 use Rattle.wb_intake.specs.Belongs.{Saw}
 use Rattle.wb_intake.specs.Carried.{Carried}
@@ -18,7 +20,7 @@ use Rattle.wb_intake.specs.Passes.{pass_name, client_of_pass, view_of}
 use Rattle.wb_intake.specs.Sights.{AreAlike}
 use Rattle.wb_intake.specs.declared.pass.Pass.{Pass}
 use Rattle.wb_engine.specs.Standing.{Told}
-use Rattle.wb_front.specs.Words.{reads_part, HasFailed}
+use Rattle.wb_front.specs.Words.{faults_of, reads_part, HasFailed, TellsFaults}
 use Rattle.wb_front.specs.declared.closing.Finished.{Finished}
 
 -- the id of the last segment that has one of so many places
@@ -45,9 +47,24 @@ pub record IsLegalFor {L B : Type 0} (of_log : L → State) (of_backing : B → 
   pub backing_reads : min (t.backing_faults + reads_part Backing v.seen.fault) (2 ^ 64 - 1) ≤ (of_backing f.backing).faults
   pub alike : AreAlike v.heard
 
+-- Why a front is closed with this fault, or with none, over devices that then count so many faults, where the fault word told so
+-- much once all was drained. By a device by which the engine was down then it is closed, and no device is called; else by the
+-- one that fails in the engine's close, whose faults rise.
+pub record IsFaultFor (t : Carried) (word : Faults) (fault : Option Which) (log_now backing_now : ℕ) : Type 0 where
+  pub down : Option Which
+  pub log_before : ℕ
+  pub backing_before : ℕ
+  pub says : word ≡ faults_of down word.log_reads word.backing_reads
+  pub log : TellsFaults Log word t.log_faults log_before
+  pub backing : TellsFaults Backing word t.backing_faults backing_before
+  pub stays : IfSome down (λ which. (fault ≡ Some which) × (log_now ≡ log_before) × (backing_now ≡ backing_before))
+  pub log_fails : down ≡ None → CountsFaultsWhere (fault ≡ Some Log) log_before log_now
+  pub backing_fails : down ≡ None → CountsFaultsWhere (fault ≡ Some Backing) backing_before backing_now
+
 -- The history has an entry for each place that was taken, of the clients that there are. What was stable is recovered after any
 -- crash now. Where no device failed in a write, a sync or a writeback all of it is on the backing device, and the log has
--- nothing that isn't. The flags say of each device whether its faults rose since the opening.
+-- nothing that isn't. The fault is the device by which the engine was or went down, as a fault word tells of which no pass has
+-- seen more. The flags say of each device whether its faults rose since the opening.
 pub record IsFinished {L B : Type 0} (of_log : L → State) (of_backing : B → State) (t : Carried) (passes : List Pass) (f : Finished L B) : Type 0 where
   pub history : List HistoryEntry
   pub stable : ℕ
@@ -66,6 +83,9 @@ pub record IsFinished {L B : Type 0} (of_log : L → State) (of_backing : B → 
   pub empty : f.fault ≡ None → t.log_told ≡ true → (x : Image) → Told (of_log f.log) x
       → IsChain t.geometry x [] × (record_of x ≡ last_segment t f.places) × SuperText x t.geometry 1
   pub durable : f.fault ≡ None → NothingPending (of_log f.log) × NothingPending (of_backing f.backing)
+  pub word : Faults
+  pub seen : (i : ℕ) (p : Pass) → slice_get passes i ≡ Some p → IsPartwiseAtMost (view_of p).seen.fault word
+  pub fault : IsFaultFor t word f.fault (of_log f.log).faults (of_backing f.backing).faults
   pub log_down : f.fault ≡ Some Log → f.log_failed ≡ true
   pub backing_down : f.fault ≡ Some Backing → f.backing_failed ≡ true
   pub log_cause : CountsFaultsWhere (f.log_failed ≡ true) t.log_faults (of_log f.log).faults

@@ -10,8 +10,8 @@ ghost use Rattle.wb_intake.specs.Passes.{name_of, pass_name, client_of_pass, vie
 ghost use Rattle.wb_intake.specs.Sights.{AreAlike};
 ghost use Rattle.wb_engine.specs.Reading.{on_backing, in_log};
 ghost use Rattle.wb_engine.specs.Standing.{IsSameEngine};
-ghost use Rattle.wb_front.specs.Words.{faults_of, reads_part, ReadsRose, CountsReads};
-ghost use Rattle.wb_front.specs.Joined.{drained, IsIntakeOf};
+ghost use Rattle.wb_front.specs.Words.{faults_of, reads_part, ReadsRose, CountsReads, HasCounted};
+ghost use Rattle.wb_front.specs.Joined.{drained, fault_of, IsIntakeOf};
 ghost use Rattle.wb_front.specs.Moving.{publishing_fault, HasRead};
 
 use crate::core_of::{Core, MOST_READS};
@@ -23,8 +23,8 @@ use wb_intake::{Drain, Intake, Named, Pass};
 impl<L: Device, B: Device, T: Named> Core<L, B, T> {
     /// Reads whole sectors from `sector` on, at least one and inside the backing device, as they stand after all that was
     /// drained, which is no less than what the pass had seen. The pass then knows what was drained. Answers how many places
-    /// that are. After an `Err`, which comes only where that device failed, there are any bytes in `into`; and one failed
-    /// read more is published of the device, which the pass has seen then.
+    /// that are, and has seen all that the words tell then. After an `Err`, which comes only where that device failed, there
+    /// are any bytes in `into`; and one failed read more is published of the device. Nothing else is published.
     pub fn read(
         &mut self,
         intake: &Intake,
@@ -43,6 +43,10 @@ impl<L: Device, B: Device, T: Named> Core<L, B, T> {
         ensures shown { OnOk result (T.carried.log_told ≡ true → T.carried.backing_told ≡ true
             → into.new ≡ bytes_at (after T.carried.base (drained self.new)) sector (length into.old / 512)) }
         ensures read { HasRead (view_of pass.old) (view_of pass.new) (drained self.new) }
+        ensures counted { HasCounted result (fault_of self.old) (fault_of self.new) }
+        ensures stable { (drain_view self.new.drain).seen.stable ≤ (view_of pass.new).seen.stable }
+        ensures fault { IsPartwiseAtMost (fault_of self.new) (view_of pass.new).seen.fault }
+        ensures alike { AreAlike (view_of pass.new).heard }
         ensures failed { IfErr result (λ which. ReadsRose (reads_part which (view_of pass.old).seen.fault) (reads_part which (view_of pass.new).seen.fault)) }
         ensures same { drained self.new ≡ drained self.old }
         ensures engine { IsSameEngine self.old.engine self.new.engine }

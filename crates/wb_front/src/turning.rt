@@ -4,7 +4,8 @@ ghost use Rattle.wb_geometry.specs.Layout.{places};
 ghost use Rattle.wb_intake.specs.Passes.{drain_loads};
 ghost use Rattle.wb_engine.specs.Stepping.{IsStep, IsTurn};
 ghost use Rattle.wb_engine.specs.Settling.{stable_places, HasSlot, IsOneSync, IsSettled};
-ghost use Rattle.wb_front.specs.Joined.{drained, IsIntakeOf};
+ghost use Rattle.wb_front.specs.Words.{KeepsReads};
+ghost use Rattle.wb_front.specs.Joined.{drained, fault_of, IsIntakeOf};
 
 use crate::core_of::Core;
 use crate::publishing::{fault_word, publish};
@@ -15,13 +16,14 @@ use wb_intake::{Intake, Named};
 
 impl<L: Device, B: Device, T: Named> Core<L, B, T> {
     /// Makes a turn of the engine, which is up, and publishes the limit, how many places are stable, and the fault. After an
-    /// `Err`, which comes only where that device failed, the engine is down.
+    /// `Err`, which comes only where that device failed, the engine is down. The counts of failed reads stay.
     pub fn turn(&mut self, intake: &Intake) -> Result<Turn, Which>
         requires own { IsIntakeOf T.carried intake.now }
         requires up { self.old.engine.down ≡ None }
         ensures step { IsStep L.state B.state self.old.engine self.new.engine }
         ensures does { IsTurn L.state B.state self.old.engine self.new.engine result }
         ensures same { drained self.new ≡ drained self.old }
+        ensures reads { KeepsReads (fault_of self.old) (fault_of self.new) }
         ensures loads { drain_loads self.new.drain ≡ drain_loads self.old.drain }
     {
         let result = self.engine.turn();
@@ -34,7 +36,7 @@ impl<L: Device, B: Device, T: Named> Core<L, B, T> {
     /// and `place` is a multiple of the places of a segment, and at most the number of those that were drained. Where these
     /// entries are stable already, nothing changes and no device is called; and where the last of their segments needn't
     /// wait for a slot, the backing device isn't called and the log is synced once at most. After an `Err`, which comes only
-    /// where that device failed, the engine is down, and what was stable still is.
+    /// where that device failed, the engine is down, and what was stable still is. The counts of failed reads stay.
     pub fn settle(&mut self, intake: &Intake, place: u64) -> Result<(), Which>
         requires own { IsIntakeOf T.carried intake.now }
         requires up { self.old.engine.down ≡ None }
@@ -45,6 +47,7 @@ impl<L: Device, B: Device, T: Named> Core<L, B, T> {
         ensures kept { place ≤ stable_places self.old.engine → (self.new ≡ self.old) × IsOk result }
         ensures one_sync { HasSlot self.old.engine place → IsOneSync L.state self.old.engine self.new.engine }
         ensures same { drained self.new ≡ drained self.old }
+        ensures reads { KeepsReads (fault_of self.old) (fault_of self.new) }
         ensures loads { drain_loads self.new.drain ≡ drain_loads self.old.drain }
     {
         if place <= self.engine.stable() {

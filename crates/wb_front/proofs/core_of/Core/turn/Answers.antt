@@ -1,5 +1,6 @@
 use Rattle.std.proofs.Common.{◌≡◌, ◌≤◌, ℕ, ap, ◌∙◌, sym, subst, Option, None}
 use Rattle.wb_geometry.specs.declared.which.Which.{Which}
+use Rattle.wb_steps.specs.declared.view.Faults.{Faults}
 use Rattle.wb_steps.specs.declared.view.View.{View}
 use Rattle.wb_intake.specs.Passes.{drain_view}
 use Rattle.wb_engine.specs.Content.{limit_of}
@@ -7,7 +8,8 @@ use Rattle.wb_engine.specs.Settling.{stable_places}
 use Rattle.wb_engine.specs.Stepping.{IsTurn}
 use Rattle.wb_engine.proofs.Drained.{turn_causes}
 use Rattle.wb_front.specs.Moving.{publishing}
-use Rattle.wb_front.specs.Words.{faults_of}
+use Rattle.wb_front.specs.Words.{faults_of, KeepsReads}
+use Rattle.wb_front.specs.Joined.{CoreContent, fault_of}
 use Rattle.wb_front.proofs.Joins.{joined_moved}
 use Rattle.wb_front.proofs.Turns.{turn_logged, limit_up, stable_up}
 use Rattle.wb_front.proofs.Words.{log_reads_are, backing_reads_are}
@@ -44,3 +46,13 @@ invariant_of-self g c =
 
 pub returns-clause-does : goal.returns-clause-does
 returns-clause-does g c = subst (λ x. IsTurn g.L.Device.state g.B.Device.state x.engine c.turn-result.new.self c.turn-result.result) c.self.view_is c.turn-result.ensures.does
+
+pub returns-clause-reads : goal.returns-clause-reads
+returns-clause-reads g c =
+    let e = c.turn-result.new.self in
+    let a = c.self.inside.log_reads in let b = c.self.inside.backing_reads in
+    let j = c.self.invariant in
+    let word = c.fault_word-fault.ensures ∙ ap (λ (d : Option Which). faults_of d a b) c.down.ensures in
+    let is : (drain_view c.publish.new.drain).seen.fault ≡ faults_of e.down a b = ap (λ (x : View). x.seen.fault) c.publish.ensures.published ∙ word in
+    subst (λ (x : CoreContent g.row.L.Denot g.row.B.Denot). KeepsReads (fault_of x) (drain_view c.publish.new.drain).seen.fault) c.self.view_is
+    (ap (λ (x : Faults). x.log_reads) is ∙ log_reads_are e.down a b ∙ sym j.1, ap (λ (x : Faults). x.backing_reads) is ∙ backing_reads_are e.down a b ∙ sym j.2)
