@@ -1,7 +1,8 @@
 -- Posted flushes are awaited at the end, and marked where they weren't done.
 use Rattle.std.proofs.Common.{ℕ, ◌≡◌, ◌⊎◌, ◌-◌, ◌<◌, ◌≤◌, List, ◌++◌, length, map, max, ltb, get_or, Option, Some, None, inl, inr, refl, ap, sym, ◌∙◌, subst, arith}
 use Rattle.std.specs.List.{Any, All}
-use Rattle.std.proofs.lemmas.Bool.{cond_both, ltb-false}
+use Rattle.std.specs.Prelude.{IfSome}
+use Rattle.std.proofs.lemmas.Bool.{cond_both, ltb-true, ltb-false}
 use Rattle.std.proofs.lemmas.List.{get_or-map, get_or_default, length-map}
 use Rattle.std.proofs.lemmas.List.Elements.{All-map, All-weaker}
 use Rattle.wb_geometry.specs.Image.{Image}
@@ -19,6 +20,7 @@ use Rattle.wb_script.specs.declared.transcript.Line.TheVariants.{Wrote, Forced, 
 use Rattle.wb_script.specs.declared.transcript.Stop.TheVariants.{Down, Ids}
 use Rattle.wb_front.specs.Words.{reads_part}
 use Rattle.wb_client.specs.Played.{HasSeenDown, RoseTo, AreWithin, told_for, awaited_line, awaited_by, HasPlayed, AreAwaited}
+use Rattle.wb_client.specs.Client.{IsPostedLine, ArePosted, IsMarkedAbove}
 use Rattle.wb_client.proofs.Appends.{most_each, most_below}
 
 any_unmap : (P Q : Line → Type 0) (change : Line → Line) (lines : List Line) → ((line : Line) → P (change line) → Q line) → Any P (map change lines) → Any Q lines
@@ -84,7 +86,7 @@ module _ (base : Option Image) (shape : Shape) (client : ℕ) (v w : View) (hear
   pub played_awaited : (awaited : List Line) → AreAwaited w lines awaited → HasPlayed base shape client v w heard told requests awaited
   played_awaited awaited are = elim are.marks [
     | inl same ↦ subst (λ (l : List Line). HasPlayed base shape client v w heard told requests l) (sym same) played
-    | inr (device, below, down, same) ↦ subst (λ (l : List Line). HasPlayed base shape client v w heard told requests l) (sym same) (played_marked below device down)
+    | inr (device, down, same) ↦ subst (λ (l : List Line). HasPlayed base shape client v w heard told requests l) (sym same) (played_marked w.seen.stable device down)
   ]
 
 -- ---- what they cover
@@ -109,14 +111,14 @@ covered_marked stable below device (Deferred ended) low le = omega (arith, low, 
 covered_marked stable below device Told low le = omega arith
 covered_marked stable below device Heard low le = omega arith
 
--- where those are marked whose number is above one that was stable
-pub are_marked : (w : View) (lines : List Line) (below : ℕ) (device : Which) → below ≤ w.seen.stable → HasSeenDown device w → awaited_by lines ≤ w.seen.stable → AreAwaited w lines (map (marked below device) lines)
-are_marked w lines below device low down awaited = record {
-  marks = inr (device, below, down, refl);
+-- where those are marked whose number is above that which is stable
+pub are_marked : (w : View) (lines : List Line) (device : Which) → HasSeenDown device w → awaited_by lines ≤ w.seen.stable → AreAwaited w lines (map (marked w.seen.stable device) lines)
+are_marked w lines device down awaited = record {
+  marks = inr (device, down, refl);
   covered =
-      most_below covered_line w.seen.stable 0 (map (marked below device) lines) (omega arith)
-      (All-map (λ (l : Line). covered_line l ≤ w.seen.stable) (marked below device) lines
-      (All-weaker (λ (l : Line). awaited_line l ≤ w.seen.stable) (λ (l : Line). covered_line (marked below device l) ≤ w.seen.stable) (λ l le. covered_marked w.seen.stable below device l low le) lines (most_each awaited_line w.seen.stable 0 lines awaited).1));
+      most_below covered_line w.seen.stable 0 (map (marked w.seen.stable device) lines) (omega arith)
+      (All-map (λ (l : Line). covered_line l ≤ w.seen.stable) (marked w.seen.stable device) lines
+      (All-weaker (λ (l : Line). awaited_line l ≤ w.seen.stable) (λ (l : Line). covered_line (marked w.seen.stable device l) ≤ w.seen.stable) (λ l le. covered_marked w.seen.stable w.seen.stable device l (omega arith) le) lines (most_each awaited_line w.seen.stable 0 lines awaited).1));
 }
 
 -- or where each that was posted is stable
@@ -130,30 +132,37 @@ are_done w lines awaited done = record {
       omega (arith, one, other));
 }
 
--- a flush of this number was found undone: no flush that covers more than is stable is below it
-covered_from : (stable number : ℕ) (device : Which) (line : Line) → 1 ≤ number → awaited_line line ≤ stable → (covered_line line ≤ stable) ⊎ (number ≤ covered_line line) → covered_line (marked (number - 1) device line) ≤ stable
-covered_from stable number device (Wrote places stop) some le found = omega arith
-covered_from stable number device (Forced places flush stop) some le found = le
-covered_from stable number device (Got point shown) some le found = omega arith
-covered_from stable number device (Summed point sum) some le found = omega arith
-covered_from stable number device (Failed failed) some le found = omega arith
-covered_from stable number device (Flushed ended) some le found = le
-covered_from stable number device (Deferred ended) some le found =
-    cond_both (ltb (number - 1) ended.through) (record { through = ended.through; voids = ended.voids; down = Some device }) ended (λ (e : Ended). done_through e ≤ stable)
-    (λ _. omega arith)
-    (λ above. elim found [
-      | inl low ↦ low
-      | inr high ↦ absurd (omega (arith, some, high, ltb-false (number - 1) ended.through above, done_le ended.through ended.voids ended.down))
-    ])
-covered_from stable number device Told some le found = omega arith
-covered_from stable number device Heard some le found = omega arith
+-- ---- which are marked
 
-pub are_marked_from : (w : View) (lines : List Line) (number : ℕ) (device : Which) → 1 ≤ number → HasSeenDown device w → awaited_by lines ≤ w.seen.stable
-    → All (λ line. (covered_line line ≤ w.seen.stable) ⊎ (number ≤ covered_line line)) lines → AreAwaited w lines (map (marked (number - 1) device) lines)
-are_marked_from w lines number device some down awaited found = record {
-  marks = inr (device, number - 1, down, refl);
-  covered =
-      most_below covered_line w.seen.stable 0 (map (marked (number - 1) device) lines) (omega arith)
-      (All-map (λ (l : Line). covered_line l ≤ w.seen.stable) (marked (number - 1) device) lines (λ k d lt.
-      covered_from w.seen.stable number device (get_or lines k d) some ((most_each awaited_line w.seen.stable 0 lines awaited).1 k d lt) (found k d lt)));
-}
+-- of those that weren't marked, one that is covers more than is stable
+mark_above : (number stable : ℕ) (v : View) (device : Which) (line : Line) → IsPostedLine number v line → IsMarkedAbove stable (marked stable device line)
+mark_above number stable v device (Wrote places stop) posted = tt
+mark_above number stable v device (Forced places flush stop) posted = tt
+mark_above number stable v device (Got point shown) posted = tt
+mark_above number stable v device (Summed point sum) posted = tt
+mark_above number stable v device (Failed failed) posted = tt
+mark_above number stable v device (Flushed ended) posted = tt
+mark_above number stable v device (Deferred ended) posted =
+    cond_both (ltb stable ended.through) (record { through = ended.through; voids = ended.voids; down = Some device }) ended (λ (e : Ended). IfSome e.down (λ d. stable < e.through))
+    (λ above. ltb-true stable ended.through above) (λ below. subst (λ (d : Option Which). IfSome d (λ x. stable < ended.through)) (sym posted.2) tt)
+mark_above number stable v device Told posted = tt
+mark_above number stable v device Heard posted = tt
+
+unmarked : (number stable : ℕ) (v : View) (line : Line) → IsPostedLine number v line → IsMarkedAbove stable line
+unmarked number stable v (Wrote places stop) posted = tt
+unmarked number stable v (Forced places flush stop) posted = tt
+unmarked number stable v (Got point shown) posted = tt
+unmarked number stable v (Summed point sum) posted = tt
+unmarked number stable v (Failed failed) posted = tt
+unmarked number stable v (Flushed ended) posted = tt
+unmarked number stable v (Deferred ended) posted = subst (λ (d : Option Which). IfSome d (λ x. stable < ended.through)) (sym posted.2) tt
+unmarked number stable v Told posted = tt
+unmarked number stable v Heard posted = tt
+
+pub marks_above : (number : ℕ) (v w : View) (lines awaited : List Line) → ArePosted number v lines → AreAwaited w lines awaited → All (IsMarkedAbove w.seen.stable) awaited
+marks_above number v w lines awaited posted are = elim are.marks [
+  | inl same ↦ subst (All (IsMarkedAbove w.seen.stable)) (sym same) (All-weaker (IsPostedLine number v) (IsMarkedAbove w.seen.stable) (unmarked number w.seen.stable v) lines posted)
+  | inr (device, down, same) ↦ subst (All (IsMarkedAbove w.seen.stable)) (sym same)
+    (All-map (IsMarkedAbove w.seen.stable) (marked w.seen.stable device) lines
+    (All-weaker (IsPostedLine number v) (λ (l : Line). IsMarkedAbove w.seen.stable (marked w.seen.stable device l)) (mark_above number w.seen.stable v device) lines posted))
+]

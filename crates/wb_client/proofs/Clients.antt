@@ -32,7 +32,7 @@ use Rattle.wb_client.specs.declared.answering.Work.{Work}
 use Rattle.wb_buffers.proofs.Asked.{asked_at, asked_more}
 use Rattle.wb_client.proofs.Appends.{values_append, heard_append, length-told_for}
 use Rattle.wb_client.proofs.Playing.{looked_same, played_none, played_more, played_looked}
-use Rattle.wb_client.proofs.Awaiting.{played_awaited}
+use Rattle.wb_client.proofs.Awaiting.{played_awaited, marks_above}
 use Rattle.wb_client.proofs.Lines.{played_write, played_forced, played_forced_stopped}
 
 -- the requests so far were answered, by a client whose pass came from v to w
@@ -57,7 +57,7 @@ playing_none t all client v work new = record {
 }
 
 posted_line_later : (number : ℕ) (v w : View) (line : Line) → v.seen.cursor ≤ w.seen.cursor → IsPostedLine number v line → IsPostedLine number w line
-posted_line_later number v w (Deferred ended) later posted = (posted.0, omega (arith, posted.1, later))
+posted_line_later number v w (Deferred ended) later posted = (posted.0, omega (arith, posted.1, later), posted.2)
 posted_line_later number v w (Wrote taken stop) later posted = tt
 posted_line_later number v w (Forced taken flush stop) later posted = tt
 posted_line_later number v w (Got point shown) later posted = tt
@@ -155,6 +155,7 @@ play_done t all client v w x work lines playing looked awaited = record {
       (played_looked base (shape_of t.geometry t.first) client v w x playing.heard playing.told (requests_at all client) work.transcript (playing.played base is) looked)
       lines awaited;
   covered = awaited.covered;
+  marked_above = marks_above (places t.geometry) w x work.transcript lines playing.posted awaited;
   in_order = λ teller. (yet_to_hear client (slice_get work.tellers.items teller), sym (playing.tellers teller));
 }
 
@@ -201,11 +202,11 @@ module _ (t : Carried) (client : ℕ) (v : View) (sector count : ℕ) (pattern :
       (record { played = λ base of. played_forced_stopped base (shape_of t.geometry t.first) client v u sector count pattern few places_are stopped broken written.taken written.ended written.why; posted = tt }))
 
   -- with `fua`
-  pub forced_line : (u w : View) (stopped : Stop) (line : Line) → IsWritten (shape_of t.geometry t.first) client v u sector count pattern places_are stopped → IsForced client u w places_are stopped line
+  pub forced_line : (u w : View) (stopped : Stop) (line : Line) → IsWritten (shape_of t.geometry t.first) client v u sector count pattern places_are stopped → IsForced (places t.geometry) client u w places_are stopped line
       → IsLineOf t client v w [] [] (Write sector count pattern true) line
   forced_line u w Whole line written (ended, is, flushed) =
       subst (IsLineOf t client v w [] [] (Write sector count pattern true)) (sym is)
-      (record { played = λ base of. played_forced base (shape_of t.geometry t.first) client v w sector count pattern few u places_are ended written.taken written.ended flushed; posted = tt })
+      (record { played = λ base of. played_forced base (shape_of t.geometry t.first) client v w sector count pattern few (places t.geometry) u places_are ended written.taken written.ended flushed; posted = tt })
   forced_line u w (Down device) line written (is, same) = forced_stopped u w (Down device) line (λ whole. down_whole device whole) written is same
     where
       down_whole : (device : Which) → Down device ≡ Whole → ⊥

@@ -140,9 +140,9 @@ module _ (base : Option Image) (shape : Shape) (client : ℕ) (v w : View) (sect
   })
 
   -- with `fua` it is flushed, where it is whole
-  pub played_forced : (u : View) (places : List ℕ) (ended : Ended) → HasTaken v u places (asked client (Write sector count pattern true)) → length places ≡ length (asked client (Write sector count pattern true)) → HasFlushed client u w ended
+  pub played_forced : (number : ℕ) (u : View) (places : List ℕ) (ended : Ended) → HasTaken v u places (asked client (Write sector count pattern true)) → length places ≡ length (asked client (Write sector count pattern true)) → HasFlushed number client u w ended
       → HasPlayed base shape client v w [] [] (Write sector count pattern true ∷ []) (Forced places (Some ended) Whole ∷ [])
-  played_forced u places ended taken whole flushed =
+  played_forced number u places ended taken whole flushed =
       let entries : List HistoryEntry = asked client (Write sector count pattern true) in
       let numbered : HasNumbered client u w ended = flushed.numbered in
       let more : HasSeenMore v w = more_trans v u w taken.more numbered.more in
@@ -169,7 +169,7 @@ module _ (base : Option Image) (shape : Shape) (client : ℕ) (v w : View) (sect
         failed = none_failed (Forced places (Some ended) Whole) v w more refl refl;
         stopped_down = λ device is. absurd (cc);
         stopped_ids = λ is. absurd (cc);
-        undone = λ device is. flushed.undone device is.0;
+        undone = λ device is. (flushed.undone device is.0).0;
       })
 
   -- and else it isn't
@@ -294,8 +294,8 @@ module _ (base : Option Image) (shape : Shape) (client : ℕ) (v w : View) (ende
   is_flush : (seen : Seen) → seen.number ≤ v.seen.cursor → (history : List HistoryEntry) → IsAhead w history → IsFlush seen.number (length history) ended
   is_flush seen le history ahead = record { after_seen = omega (arith, le, numbered.behind); inside = omega (arith, numbered.seen, ahead.seen) }
 
-  pub played_flush : HasFlushed client v w ended → HasPlayed base shape client v w [] [] (Flush ∷ []) (Flushed ended ∷ [])
-  played_flush flushed = played_one base shape client v w [] [] Flush (Flushed ended) (record {
+  pub played_flush : (number : ℕ) → HasFlushed number client v w ended → HasPlayed base shape client v w [] [] (Flush ∷ []) (Flushed ended ∷ [])
+  played_flush number flushed = played_one base shape client v w [] [] Flush (Flushed ended) (record {
     more = numbered.more;
     mine = numbered.mine;
     heard_more = none_more w.heard v.heard numbered.heard;
@@ -310,7 +310,7 @@ module _ (base : Option Image) (shape : Shape) (client : ℕ) (v w : View) (ende
     failed = none_failed (Flushed ended) v w numbered.more refl refl;
     stopped_down = λ device none. absurd none;
     stopped_ids = λ none. absurd none;
-    undone = flushed.undone;
+    undone = λ device is. (flushed.undone device is).0;
   })
 
   -- a posted one, which is awaited at the end

@@ -1,5 +1,5 @@
 -- What a client of a script leaves on its pass.
-use Rattle.std.specs.Prelude.{ℕ, ◌≡◌, ◌+◌, ◌*◌, ◌%◌, ◌≤◌, true, false, List, [], ◌∷◌, ◌++◌, length, map, slice_get, slice_index_or, All, Option, None, Some, IfSome, Result, Ok, Err}
+use Rattle.std.specs.Prelude.{ℕ, ◌≡◌, ◌+◌, ◌*◌, ◌%◌, ◌<◌, ◌≤◌, true, false, List, [], ◌∷◌, ◌++◌, length, map, slice_get, slice_index_or, All, Option, None, Some, IfSome, Result, Ok, Err}
 use Rattle.wb_geometry.specs.Image.{Image}
 use Rattle.wb_geometry.specs.Layout.{places}
 use Rattle.wb_steps.specs.Rule.{shape_of}
@@ -34,20 +34,34 @@ IsBaseOf t image = (t.log_told ≡ true) × (t.backing_told ≡ true) × (image 
 abbrev pub ArePlayed : Carried → (client : ℕ) → (v w : View) → (heard : List (ℕ × List ℕ)) → (told : List ℕ) → List Request → List Line → Type 0
 ArePlayed t client v w heard told requests lines = (base : Option Image) → IfSome base (IsBaseOf t) → HasPlayed base (shape_of t.geometry t.first) client v w heard told requests lines
 
--- What a client leaves: its transcript answers its requests; all flushes that it says are done are so, as its pass has seen; and
--- it heard the notes that each other left for it in order, from the first.
+-- a posted flush of more places than so many, or one that isn't marked
+abbrev pub IsMarkedAbove : (stable : ℕ) → Line → Type 0
+IsMarkedAbove stable (Deferred ended) = IfSome ended.down (λ device. stable < ended.through)
+IsMarkedAbove stable (Wrote taken stop) = Unit {0}
+IsMarkedAbove stable (Forced taken flush stop) = Unit {0}
+IsMarkedAbove stable (Got point shown) = Unit {0}
+IsMarkedAbove stable (Summed point sum) = Unit {0}
+IsMarkedAbove stable (Failed device) = Unit {0}
+IsMarkedAbove stable (Flushed ended) = Unit {0}
+IsMarkedAbove stable Told = Unit {0}
+IsMarkedAbove stable Heard = Unit {0}
+
+-- What a client leaves: its transcript answers its requests; all flushes that it says are done are so, as its pass has seen, and
+-- of the posted ones just those that aren't are marked; and it heard the notes that each other left for it in order, from the
+-- first.
 pub record IsPlayedBy (t : Carried) (all : List (List Request)) (client : ℕ) (v w : View) (lines : List Line) : Type 0 where
   pub heard : List (ℕ × List ℕ)
   pub told : List ℕ
   pub played : ArePlayed t client v w heard told (requests_at all client) lines
   pub covered : covered_by lines ≤ w.seen.stable
+  pub marked_above : All (IsMarkedAbove w.seen.stable) lines
   pub in_order : AreInOrder all client heard
 
 -- ---- one request
 
--- a flush that was posted here is of whole segments, of so many places each, and is no further than the pass has seen
+-- a flush that was posted here is of whole segments, of so many places each, no further than the pass has seen, and not marked yet
 abbrev pub IsPostedLine : (number : ℕ) → View → Line → Type 0
-IsPostedLine number w (Deferred ended) = (ended.through % number ≡ 0) × (ended.through ≤ w.seen.cursor)
+IsPostedLine number w (Deferred ended) = (ended.through % number ≡ 0) × (ended.through ≤ w.seen.cursor) × (ended.down ≡ None)
 IsPostedLine number w (Wrote taken stop) = Unit {0}
 IsPostedLine number w (Forced taken flush stop) = Unit {0}
 IsPostedLine number w (Got point shown) = Unit {0}
@@ -75,7 +89,7 @@ IsStopOf (cause.Down device) ended = ended ≡ stop.Down device
 -- how a flush of this number ended
 abbrev pub IsAwaited : View → (through : ℕ) → Result Receipt Down → Type 0
 IsAwaited w through (Ok receipt) = through ≤ w.seen.stable
-IsAwaited w through (Err down) = (down.stable ≤ w.seen.stable) × HasSeenDown down.device w
+IsAwaited w through (Err down) = (down.stable ≡ w.seen.stable) × (w.seen.stable < through) × HasSeenDown down.device w
 
 -- a write took these places, and ended so
 pub record IsWritten (shape : Shape) (client : ℕ) (v w : View) (sector count : ℕ) (pattern : List ℕ) (places : List ℕ) (stopped : Stop) : Type 0 where
@@ -84,10 +98,10 @@ pub record IsWritten (shape : Shape) (client : ℕ) (v w : View) (sector count :
   pub why : IsStoppedFor shape w stopped
 
 -- the line of a write with `fua` that took these places: it was flushed where it is whole
-abbrev pub IsForced : (client : ℕ) → (v w : View) → (places : List ℕ) → Stop → Line → Type 0
-IsForced client v w places stop.Whole line = (ended : Ended) × (line ≡ Forced places (Some ended) stop.Whole) × HasFlushed client v w ended
-IsForced client v w places (stop.Down device) line = (line ≡ Forced places None (stop.Down device)) × (w ≡ v)
-IsForced client v w places stop.Ids line = (line ≡ Forced places None stop.Ids) × (w ≡ v)
+abbrev pub IsForced : (number client : ℕ) → (v w : View) → (places : List ℕ) → Stop → Line → Type 0
+IsForced number client v w places stop.Whole line = (ended : Ended) × (line ≡ Forced places (Some ended) stop.Whole) × HasFlushed number client v w ended
+IsForced number client v w places (stop.Down device) line = (line ≡ Forced places None (stop.Down device)) × (w ≡ v)
+IsForced number client v w places stop.Ids line = (line ≡ Forced places None stop.Ids) × (w ≡ v)
 
 -- a line was added that answers the request, which needs no note
 pub record AddsLine (t : Carried) (client : ℕ) (v w : View) (request : Request) (before now : List Line) : Type 0 where

@@ -1,5 +1,5 @@
 -- What a pass did for a request, as the line of the request needs it.
-use Rattle.std.specs.Prelude.{ℕ, ◌≡◌, ◌+◌, ◌^◌, ◌<◌, ◌≤◌, List, ◌++◌, All, Some}
+use Rattle.std.specs.Prelude.{ℕ, ◌≡◌, ◌+◌, ◌%◌, ◌^◌, ◌<◌, ◌≤◌, List, ◌++◌, All, Some}
 use Rattle.std.specs.List.{zip}
 use Rattle.wb_geometry.specs.History.{HistoryEntry}
 use Rattle.wb_geometry.specs.declared.which.Which.{Which}
@@ -43,8 +43,10 @@ pub record HasNumbered (client : ℕ) (v w : View) (ended : Ended) : Type 0 wher
   pub seen : ended.through ≤ w.seen.cursor
   pub few : ended.voids ≤ 127
 
--- it was awaited, and ended so
-pub record HasFlushed (client : ℕ) (v w : View) (ended : Ended) : Type 0 where
+-- It was awaited, and ended so: of whole segments, of so many places each. It is undone only where the cache is down by a device
+-- and fewer places are stable than it covers, as the pass has then seen.
+pub record HasFlushed (number client : ℕ) (v w : View) (ended : Ended) : Type 0 where
   pub numbered : HasNumbered client v w ended
+  pub whole : ended.through % number ≡ 0
   pub done : done_through ended ≤ w.seen.stable
-  pub undone : (device : Which) → ended.down ≡ Some device → HasSeenDown device w
+  pub undone : (device : Which) → ended.down ≡ Some device → HasSeenDown device w × (w.seen.stable < ended.through)

@@ -143,7 +143,7 @@ pub record HasPlayed (base : Option Image) (shape : Shape) (client : ℕ) (v w :
   pub undone : (device : Which) → Any (IsUnflushed device) lines → HasSeenDown device w
 
 -- The flushes that a client posted were awaited, and the pass came to w: these are its lines then. Those that weren't done are
--- marked, where the cache is down by a device, and what the others cover is no more than the pass has seen to be stable.
+-- marked, where the cache is down by a device: just those that cover more than the pass has seen to be stable.
 pub record AreAwaited (w : View) (lines awaited : List Line) : Type 0 where
-  pub marks : (awaited ≡ lines) ⊎ ((device : Which) × (below : ℕ) × HasSeenDown device w × (awaited ≡ map (marked below device) lines))
+  pub marks : (awaited ≡ lines) ⊎ ((device : Which) × HasSeenDown device w × (awaited ≡ map (marked w.seen.stable device) lines))
   pub covered : covered_by awaited ≤ w.seen.stable

@@ -60,7 +60,7 @@ pub(crate) fn flush<L: Device, B: Device, G: Gate, T: Named, R: Wait>(
 ) -> Ended
     requires own { IsPassOf T.carried pass.old }
     ensures own { (pass_name pass.new ≡ pass_name pass.old) × (client_of_pass pass.new ≡ client_of_pass pass.old) × ((view_of pass.new).unfilled ≡ []) }
-    ensures flushed { HasFlushed (client_of_pass pass.old) (view_of pass.old) (view_of pass.new) result }
+    ensures flushed { HasFlushed (places T.carried.geometry) (client_of_pass pass.old) (view_of pass.old) (view_of pass.new) result }
 {
     let posted = post(front, pass);
     match await_flush(rt, front, pass, &posted) {
@@ -72,7 +72,7 @@ pub(crate) fn flush<L: Device, B: Device, G: Gate, T: Named, R: Wait>(
     }
 }
 
-/// Awaits the flushes that were posted, in order. Where one isn't done it is marked, with all others that aren't.
+/// Awaits the flushes that were posted, in order. Where one isn't done it is marked, with all others that aren't, and no other.
 pub(crate) fn await_posted<L: Device, B: Device, G: Gate, T: Named, R: Wait>(
     rt: &R,
     front: &Front<'_, L, B, G, T>,
@@ -107,7 +107,7 @@ fn await_line<L: Device, B: Device, G: Gate, T: Named, R: Wait>(
     ensures own { (pass_name pass.new ≡ pass_name pass.old) × (client_of_pass pass.new ≡ client_of_pass pass.old) × ((view_of pass.new).unfilled ≡ []) }
     ensures looked { HasLooked (view_of pass.old) (view_of pass.new) }
     ensures done { OnOk result (IfSome (slice_get transcript.now index) (λ line. covered_line line ≤ max (awaited_line line) (view_of pass.new).seen.stable)) }
-    ensures undone { IfErr result (λ down. (down.stable ≤ (view_of pass.new).seen.stable) × HasSeenDown down.device (view_of pass.new)) }
+    ensures undone { IfErr result (λ down. (down.stable ≡ (view_of pass.new).seen.stable) × HasSeenDown down.device (view_of pass.new)) }
 {
     if let Some(Line::Deferred { ended }) = transcript.get(index) {
         await_flush(rt, front, pass, &ended)?;

@@ -2,6 +2,7 @@
 use Rattle.std.proofs.Common.{ℕ, List, ◌≡◌, [], ◌∷◌, ◌++◌, length, true, false, ap, sym, ◌∙◌, subst, arith}
 use Rattle.std.proofs.lemmas.List.{with_items_is}
 use Rattle.std.proofs.lemmas.Result.{on_ok_weaker}
+use Rattle.wb_geometry.specs.Layout.{places}
 use Rattle.wb_steps.specs.Rule.{shape_of}
 use Rattle.wb_intake.specs.Passes.{client_of_pass, view_of}
 use Rattle.wb_intake.specs.declared.pass.Pass.{Pass}
@@ -33,7 +34,7 @@ wrote g c =
       | then-fua w ↦
           let is : c.args.request.now ≡ Write c.in-Write.sector c.in-Write.count c.in-Write.pattern true = c.in-Write.is ∙ ap (Write c.in-Write.sector c.in-Write.count c.in-Write.pattern) w.if-fua.true in
           let u = c.write.new.pass in
-          let forced = subst (λ (n : ℕ). IsForced n (view_of u) (view_of w.forced-line.new.pass) taken stop w.forced-line.result) c.write.ensures.own.1 w.forced-line.ensures.forced in
+          let forced = subst (λ (n : ℕ). IsForced (places g.T.Named.carried.geometry) n (view_of u) (view_of w.forced-line.new.pass) taken stop w.forced-line.result) c.write.ensures.own.1 w.forced-line.ensures.forced in
           subst (λ (line : Line). P c.args.request.now c.if-fua.pass line) (sym w.line-is)
           (subst (λ (q : Pass). P c.args.request.now q w.forced-line.result) (sym w.pass-is)
           (subst (λ (r : Request). P r w.forced-line.new.pass w.forced-line.result) (sym is)
@@ -89,7 +90,7 @@ returns-in-Flush-clause-answered g c =
     line_added c.push-in-Flush.result t client v w [] [] c.args.request.now (Flushed ended) c.args.work.now _
     (record {
       played = λ base of. subst (λ (r : Request). HasPlayed base (shape_of t.geometry t.first) client v w [] [] (r ∷ []) (Flushed ended ∷ [])) (sym c.in-Flush.is)
-          (played_flush base (shape_of t.geometry t.first) client v w ended flushed.numbered flushed);
+          (played_flush base (shape_of t.geometry t.first) client v w ended flushed.numbered (places t.geometry) flushed);
       posted = tt;
     }) (none_heard client c.args.work.now.tellers.items) c.push-in-Flush.ensures.ok
 
@@ -105,7 +106,7 @@ returns-in-Defer-clause-answered g c =
     (record {
       played = λ base of. subst (λ (r : Request). HasPlayed base (shape_of t.geometry t.first) client v w [] [] (r ∷ []) (Deferred ended ∷ [])) (sym c.in-Defer.is)
           (played_defer base (shape_of t.geometry t.first) client v w ended posted.numbered posted.up);
-      posted = (posted.whole, posted.numbered.seen);
+      posted = (posted.whole, posted.numbered.seen, posted.up);
     }) (none_heard client c.args.work.now.tellers.items) c.push-in-Defer.ensures.ok
 
 pub returns-in_ok-tell-in-Tell-clause-answered : goal.returns-in_ok-tell-in-Tell-clause-answered

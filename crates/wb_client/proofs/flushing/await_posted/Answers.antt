@@ -3,6 +3,7 @@ use Rattle.std.proofs.Common.{ℕ, ◌≡◌, ◌+◌, ◌<◌, ◌≤◌, List,
 use Rattle.std.specs.Prelude.{slice_get, IfSome}
 use Rattle.std.proofs.lemmas.Option.{slice_get-get_or}
 use Rattle.wb_intake.specs.Passes.{view_of}
+use Rattle.wb_script.specs.Keeping.{marked}
 use Rattle.wb_script.specs.Transcripts.{covered_line}
 use Rattle.wb_script.specs.declared.transcript.Line.{Line}
 use Rattle.wb_client.specs.Played.{awaited_by, awaited_line, AreAwaited}
@@ -19,7 +20,7 @@ returns-in-Err-clause-awaited g c =
     let before = c.loop-index.invariant in
     let awaited : awaited_by c.args.transcript.now ≤ w.seen.stable = omega (arith, c.requires.awaited, before.looked.more.stable, c.await_line.ensures.looked.more.stable) in
     subst (AreAwaited w c.args.transcript.now) (sym (c.mark_deferred.ensures ∙ ap (map _) before.lines))
-    (are_marked w c.args.transcript.now down.stable down.device undone.0 undone.1 awaited)
+    (subst (λ (n : ℕ). AreAwaited w c.args.transcript.now (map (marked n down.device) c.args.transcript.now)) (sym undone.0) (are_marked w c.args.transcript.now down.device undone.1 awaited))
 
 pub loop-index-preserved : goal.loop-index-preserved
 loop-index-preserved g c =
