@@ -16,7 +16,7 @@ use wb_intake::{Named, Pass};
 use wb_script::{Script, Transcript};
 
 /// Answers the requests of the client with this number on its pass, in order, and then awaits the flushes that it posted.
-/// Between clients notes go over the board. The pass has told and heard no note yet. It may wait for the lock, for room, and
+/// Between clients notes go over the board. The pass has told no note yet. It may wait for the lock, for room, and
 /// for others to fill their places or to leave their notes. An `Err` is want of memory, of this client or of one whose note it
 /// waits for; nothing is told of its requests then.
 pub fn client<L: Device, B: Device, G: Gate, T: Named, R: Wait>(
@@ -31,7 +31,7 @@ pub fn client<L: Device, B: Device, G: Gate, T: Named, R: Wait>(
     requires valid { IsValid script.now }
     requires own { IsPassOf T.carried pass.old }
     requires client { (client_of_pass pass.old ≡ number) × (number < script.now.clients) }
-    requires new { ((view_of pass.old).told ≡ []) × ((view_of pass.old).heard ≡ []) }
+    requires new { (view_of pass.old).told ≡ [] }
     requires fits { script.now.sectors ≤ T.carried.geometry.backing_sectors }
     ensures own { (pass_name pass.new ≡ pass_name pass.old) × (client_of_pass pass.new ≡ client_of_pass pass.old) × ((view_of pass.new).unfilled ≡ []) }
     ensures played { IfOk result (IsPlayedBy T.carried script.now.requests number (view_of pass.old) (view_of pass.new)) }
@@ -55,7 +55,7 @@ fn play<L: Device, B: Device, G: Gate, T: Named, R: Wait>(
     requires valid { IsValid script.now }
     requires own { IsPassOf T.carried pass.old }
     requires client { (client_of_pass pass.old ≡ number) × (number < script.now.clients) }
-    requires new { ((view_of pass.old).told ≡ []) × ((view_of pass.old).heard ≡ []) }
+    requires new { (view_of pass.old).told ≡ [] }
     requires fits { script.now.sectors ≤ T.carried.geometry.backing_sectors }
     ensures own { (pass_name pass.new ≡ pass_name pass.old) × (client_of_pass pass.new ≡ client_of_pass pass.old) × ((view_of pass.new).unfilled ≡ []) }
     ensures played { IfOk result (IsPlayedBy T.carried script.now.requests number (view_of pass.old) (view_of pass.new)) }

@@ -35,7 +35,7 @@ answer-requires-clause-few g c =
     let script = c.args.script.now in
     let i : ℕ = c.loop-request.request-index in
     let small : length c.as_slice-requests.result.now < 2 ^ 63 = search rules in
-    let told = told_few g.T.Named.carried script.requests c.args.number (view_of c.args.pass.now) (view_of c.loop-request.pass) (requests_at script.requests c.args.number) i c.loop-request.work c.requires.new.0 c.loop-request.invariant.playing in
+    let told = told_few g.T.Named.carried script.requests c.args.number (view_of c.args.pass.now) (view_of c.loop-request.pass) (requests_at script.requests c.args.number) i c.loop-request.work c.requires.new c.loop-request.invariant.playing in
     omega (arith, small, told, c.loop-request-test.true)
 
 pub answer-requires-clause-hears : goal.answer-requires-clause-hears
@@ -92,5 +92,5 @@ returns-clause-few g c =
     let script = c.args.script.now in
     let i : ℕ = c.loop-request.request-index in
     let small : length c.as_slice-requests.result.now < 2 ^ 63 = search rules in
-    let told = told_few g.T.Named.carried script.requests c.args.number (view_of c.args.pass.now) (view_of c.loop-request.pass) (requests_at script.requests c.args.number) i c.loop-request.work c.requires.new.0 c.loop-request.invariant.playing in
+    let told = told_few g.T.Named.carried script.requests c.args.number (view_of c.args.pass.now) (view_of c.loop-request.pass) (requests_at script.requests c.args.number) i c.loop-request.work c.requires.new c.loop-request.invariant.playing in
     omega (arith, small, told, c.loop-request.auto.request-index-end, ap length c.await_posted.ensures.looked.told)
