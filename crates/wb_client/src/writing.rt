@@ -1,6 +1,6 @@
 //! Writes of a client.
 ghost use Rattle.std.specs.Prelude.{◌≡◌, [], IfOk};
-ghost use Rattle.wb_geometry.specs.Layout.{places};
+ghost use Rattle.wb_geometry.specs.Layout.{places as segment_places};
 ghost use Rattle.wb_steps.specs.Rule.{shape_of};
 ghost use Rattle.wb_intake.specs.Passes.{pass_name, client_of_pass, view_of};
 ghost use Rattle.wb_front.specs.Requests.{IsPassOf};
@@ -65,7 +65,7 @@ pub(crate) fn forced<L: Device, B: Device, G: Gate, T: Named, R: Wait>(
 ) -> Line<'static>
     requires own { IsPassOf T.carried pass.old }
     ensures own { (pass_name pass.new ≡ pass_name pass.old) × (client_of_pass pass.new ≡ client_of_pass pass.old) × ((view_of pass.new).unfilled ≡ []) }
-    ensures forced { IsForced (places T.carried.geometry) (client_of_pass pass.old) (view_of pass.old) (view_of pass.new) places stop result }
+    ensures forced { IsForced (segment_places T.carried.geometry) (client_of_pass pass.old) (view_of pass.old) (view_of pass.new) places stop result }
 {
     let flush = match stop {
         Stop::Whole => Some(flush(rt, front, pass)),
