@@ -1,5 +1,5 @@
 -- The requests of a client are answered one after another, and the flushes that it posted are awaited.
-use Rattle.std.proofs.Common.{ℕ, zero, suc, ◌≡◌, ◌+◌, ◌*◌, ◌%◌, ◌^◌, ◌<◌, ◌≤◌, Bool, true, false, cond, List, [], ◌∷◌, ◌++◌, length, map, take, drop, get_or, All, Option, None, Some, inl, inr, refl, ap, sym, ◌∙◌, subst, arith}
+use Rattle.std.proofs.Common.{ℕ, zero, suc, ◌≡◌, ◌+◌, ◌<◌, ◌≤◌, Bool, true, false, cond, List, [], ◌∷◌, ◌++◌, length, map, take, drop, get_or, All, Option, None, Some, inl, inr, refl, ap, sym, ◌∙◌, subst, arith}
 use Rattle.std.specs.Prelude.{slice_get, IfSome, OnOk, Result, max}
 use Rattle.std.proofs.lemmas.Result.{on_ok_weaker}
 use Rattle.wb_geometry.specs.declared.which.Which.{Which}
@@ -8,12 +8,10 @@ use Rattle.std.proofs.lemmas.Bool.{eq-eqb, cases_lt}
 use Rattle.std.proofs.lemmas.Option.{slice_get-get_or}
 use Rattle.wb_script.specs.Transcripts.{covered_line}
 use Rattle.std.proofs.lemmas.List.FromFn.{length-range_with_len}
-use Rattle.std.proofs.lemmas.List.{append_assoc, append-nil, length-append, length-map, length-take, get_or_default, take_more, take-append-drop}
+use Rattle.std.proofs.lemmas.List.{append-nil, length-append, length-map, length-take, get_or_default, take_more, take-append-drop}
 use Rattle.std.proofs.lemmas.List.Elements.{All-append}
-use Rattle.wb_geometry.specs.Image.{Image}
 use Rattle.wb_geometry.specs.Layout.{places}
 use Rattle.wb_steps.specs.Rule.{shape_of}
-use Rattle.wb_steps.specs.Views.{IsPrefix}
 use Rattle.wb_steps.specs.declared.view.View.{View}
 use Rattle.wb_intake.specs.Carried.{Carried}
 use Rattle.wb_script.specs.Content.{ScriptContent}
@@ -22,15 +20,15 @@ use Rattle.wb_script.specs.declared.request.Request.{Request}
 use Rattle.wb_script.specs.declared.request.Request.TheVariants.{Write, Read, ReadSum, Flush, Defer, Tell, Hear}
 use Rattle.wb_script.specs.declared.transcript.Line.{Line}
 use Rattle.wb_script.specs.declared.transcript.Line.TheVariants.{Wrote, Forced, Got, Summed, Failed, Flushed, Deferred, Told, Heard}
-use Rattle.wb_client.specs.Played.{HasSeenMore, heard_from, hearer_of, hearers_of, counts_for, AreInOrder, awaited_line, HasPlayed, AreAwaited}
+use Rattle.wb_client.specs.Played.{HasSeenMore, heard_from, hearer_of, hearers_of, counts_for, awaited_line, HasPlayed, AreAwaited}
 use Rattle.wb_client.specs.Done.{HasLooked}
 use Rattle.wb_script.specs.declared.transcript.Stop.{Stop}
 use Rattle.wb_script.specs.declared.transcript.Stop.TheVariants.{Whole, Down, Ids}
-use Rattle.wb_client.specs.Client.{IsBaseOf, ArePlayed, IsPlayedBy, IsPostedLine, ArePosted, IsWritten, IsForced, yet_to_hear, AreTellers, MayHear, IsNewWork, HasAnswered}
+use Rattle.wb_client.specs.Client.{ArePlayed, IsPlayedBy, IsPostedLine, ArePosted, IsWritten, IsForced, yet_to_hear, AreTellers, MayHear, IsNewWork, HasAnswered}
 use Rattle.wb_client.specs.declared.teller.Teller.{Teller}
 use Rattle.wb_client.specs.declared.answering.Work.{Work}
 use Rattle.wb_buffers.proofs.Asked.{asked_at, asked_more}
-use Rattle.wb_client.proofs.Appends.{values_append, heard_append, length-told_for}
+use Rattle.wb_client.proofs.Appends.{heard_append, length-told_for}
 use Rattle.wb_client.proofs.Playing.{looked_same, played_none, played_more, played_looked}
 use Rattle.wb_client.proofs.Awaiting.{played_awaited, marks_above}
 use Rattle.wb_client.proofs.Lines.{played_write, played_forced, played_forced_stopped}

@@ -1,5 +1,5 @@
 -- What the calls of a front leave of a pass, as a client's lines need it.
-use Rattle.std.proofs.Common.{ℕ, suc, ◌≡◌, ◌⊎◌, ◌+◌, ◌*◌, ◌-◌, ◌/◌, ◌^◌, ◌<◌, ◌≤◌, true, false, List, [], ◌∷◌, ◌++◌, length, map, drop, All, Option, None, Some, IfSome, refl, ap, sym, ◌∙◌, subst, arith}
+use Rattle.std.proofs.Common.{ℕ, suc, ◌≡◌, ◌⊎◌, ◌+◌, ◌*◌, ◌/◌, ◌^◌, ◌<◌, ◌≤◌, true, List, [], ◌∷◌, ◌++◌, length, drop, Option, None, Some, IfSome, refl, ap, sym, ◌∙◌, subst, arith}
 use Rattle.std.specs.List.{zip}
 use Rattle.wb_geometry.specs.Image.{Image, bytes_at}
 use Rattle.wb_geometry.specs.History.{HistoryEntry, after}
@@ -23,16 +23,15 @@ use Rattle.wb_front.specs.declared.writing.WriteCause.TheVariants as cause
 use Rattle.wb_script.specs.Patterns.{repeated}
 use Rattle.wb_script.specs.Transcripts.{Rises, HasPlaces}
 use Rattle.wb_script.specs.declared.request.Request.{Request}
-use Rattle.wb_script.specs.declared.request.Request.TheVariants.{Write, Read, ReadSum, Flush, Defer, Tell, Hear}
-use Rattle.wb_script.specs.declared.transcript.Line.{Line}
-use Rattle.wb_script.specs.declared.transcript.Line.TheVariants.{Wrote, Forced, Got, Summed, Failed, Flushed, Deferred, Told, Heard}
+use Rattle.wb_script.specs.declared.request.Request.TheVariants.{Read, ReadSum, Tell, Hear}
+use Rattle.wb_script.specs.declared.transcript.Line.TheVariants.{Got, Summed, Failed, Told, Heard}
 use Rattle.wb_script.specs.declared.transcript.Stop.{Stop}
 use Rattle.wb_script.specs.declared.transcript.Stop.TheVariants.{Whole, Down, Ids}
 use Rattle.wb_client.specs.Played.{HasSeenDown, last_of, HasPlayed}
 use Rattle.wb_client.specs.Done.{HasLooked, HasTaken, IsStoppedFor}
 use Rattle.wb_client.specs.Client.{IsBaseOf, IsStopOf}
 use Rattle.wb_client.proofs.Lines.{played_read, played_sum, played_failed, played_tell, played_hear}
-use Rattle.wb_client.proofs.Passes.{known_same, looked_saw, numbered_posted, numbered_then, last_noted}
+use Rattle.wb_client.proofs.Passes.{known_same, last_noted}
 
 -- ---- writes
 

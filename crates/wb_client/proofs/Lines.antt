@@ -23,7 +23,7 @@ use Rattle.wb_steps.specs.declared.view.View.{View}
 use Rattle.wb_steps.proofs.Lists.{longer_more}
 use Rattle.wb_script.specs.Patterns.{repeated}
 use Rattle.wb_script.specs.Valid.{heard_of}
-use Rattle.wb_script.specs.Transcripts.{Seen, seen_after, asked, voids_of, printed_line, printed, left_by, above, Rises, HasPlaces, IsFlush, IsForced, IsShown, Answers, done_through, is_failure, failures, HasStop, IsUnflushed}
+use Rattle.wb_script.specs.Transcripts.{Seen, seen_after, asked, voids_of, printed_line, printed, left_by, above, Rises, HasPlaces, IsFlush, IsForced, IsShown, Answers, is_failure, failures, HasStop, IsUnflushed}
 use Rattle.wb_script.specs.declared.request.Request.{Request}
 use Rattle.wb_script.specs.declared.request.Request.TheVariants.{Write, Read, ReadSum, Flush, Defer, Tell, Hear}
 use Rattle.wb_script.specs.declared.transcript.Ended.{Ended}

@@ -1,12 +1,11 @@
 -- What a client of a script leaves on its pass.
-use Rattle.std.specs.Prelude.{ℕ, ◌≡◌, ◌+◌, ◌*◌, ◌%◌, ◌<◌, ◌≤◌, true, false, List, [], ◌∷◌, ◌++◌, length, map, slice_get, slice_index_or, All, Option, None, Some, IfSome, Result, Ok, Err}
+use Rattle.std.specs.Prelude.{ℕ, ◌≡◌, ◌%◌, ◌<◌, ◌≤◌, true, false, List, [], ◌∷◌, ◌++◌, length, map, slice_get, All, Option, None, Some, IfSome, Result, Ok, Err}
 use Rattle.wb_geometry.specs.Image.{Image}
 use Rattle.wb_geometry.specs.Layout.{places}
 use Rattle.wb_steps.specs.Rule.{shape_of}
 use Rattle.wb_steps.specs.declared.shape.Shape.{Shape}
 use Rattle.wb_steps.specs.declared.view.View.{View}
 use Rattle.wb_intake.specs.Carried.{Carried}
-use Rattle.wb_geometry.specs.declared.which.Which.{Which}
 use Rattle.wb_barrier.specs.declared.tickets.Receipt.{Receipt}
 use Rattle.wb_front.specs.declared.writing.WriteCause.{WriteCause}
 use Rattle.wb_front.specs.declared.writing.WriteCause.TheVariants as cause

@@ -2,7 +2,8 @@
 ghost use Rattle.std.specs.Prelude.{◌≡◌, ◌-◌, ◌<◌, ◌≤◌, ◌^◌, ℕ, [], length, IfOk, OnOk};
 ghost use Rattle.wb_intake.specs.Passes.{pass_name, client_of_pass, view_of};
 ghost use Rattle.wb_front.specs.Requests.{IsPassOf};
-ghost use Rattle.wb_script.specs.Valid.{IsAsked};
+ghost use Rattle.wb_script.specs.Valid.{IsAsked, IsWithin, Fills};
+ghost use Rattle.wb_script.specs.declared.request.Request.TheVariants.{Write};
 ghost use Rattle.wb_client.specs.Client.{IsNewWork, MayHear, HasAnswered};
 
 use crate::flushing::{flush, post};
@@ -17,7 +18,7 @@ use wb_buffers::Buffers;
 use wb_device::Device;
 use wb_front::{Front, Gate};
 use wb_intake::{Named, Pass};
-use wb_script::{Line, Request, Script, Taken, Transcript};
+use wb_script::{Line, Pattern, Request, Script, Taken, Transcript};
 
 /// What a client works with: room for bytes, what it has yet to hear of each other client, and its lines so far.
 #[derive(Drop)]
@@ -69,17 +70,7 @@ pub(crate) fn answer<L: Device, B: Device, G: Gate, T: Named, R: Wait>(
             count,
             pattern,
             fua,
-        } => {
-            let bytes = &mut work.buffers.written;
-            let (places, stop) = write(rt, alloc, front, pass, bytes, *sector, *count, pattern)?;
-            let line = if *fua {
-                forced(rt, front, pass, places, stop)
-            } else {
-                let places = Taken::of(places);
-                Line::Wrote { places, stop }
-            };
-            work.transcript.push(alloc, &line)
-        }
+        } => answer_write(rt, alloc, front, pass, *sector, *count, pattern, *fua, work),
         Request::Read { sector, count } => {
             let (shown, lines) = (&mut work.buffers.shown, &mut work.transcript);
             read(rt, alloc, front, pass, shown, *sector, *count, lines)
@@ -105,4 +96,36 @@ pub(crate) fn answer<L: Device, B: Device, G: Gate, T: Named, R: Wait>(
             work.transcript.push(alloc, &Line::Heard)
         }
     }
+}
+
+/// Answers a write, which is flushed where `fua` asks for it and it is whole. An `Err` is want of memory.
+fn answer_write<L: Device, B: Device, G: Gate, T: Named, R: Wait>(
+    rt: &R,
+    alloc: Global,
+    front: &Front<'_, L, B, G, T>,
+    pass: &mut Pass,
+    sector: u64,
+    count: u64,
+    pattern: &Pattern,
+    fua: bool,
+    work: &mut Work<'_>,
+) -> Result<(), AllocError>
+    requires own { IsPassOf T.carried pass.old }
+    requires within { IsWithin T.carried.geometry.backing_sectors sector count }
+    requires fills { Fills pattern.now count }
+    requires sized { length work.old.buffers.shown.items ≡ 131072 }
+    ensures own { (pass_name pass.new ≡ pass_name pass.old) × (client_of_pass pass.new ≡ client_of_pass pass.old) × ((view_of pass.new).unfilled ≡ []) }
+    ensures sized { length work.new.buffers.shown.items ≡ 131072 }
+    ensures answered { OnOk result (HasAnswered T.carried (client_of_pass pass.old) (view_of pass.old) (view_of pass.new)
+        (Write sector count pattern.now fua) work.old work.new) }
+{
+    let bytes = &mut work.buffers.written;
+    let (places, stop) = write(rt, alloc, front, pass, bytes, sector, count, pattern)?;
+    let line = if fua {
+        forced(rt, front, pass, places, stop)
+    } else {
+        let places = Taken::of(places);
+        Line::Wrote { places, stop }
+    };
+    work.transcript.push(alloc, &line)
 }

@@ -85,8 +85,8 @@ pub record IsShort (before now : Loads) (w : View) (number : ℕ) (d : Down) : T
   pub seen_fault : w.seen.fault ≡ parts_of word
   pub down : down_part d.device w.seen.fault ≡ 1
 
--- A flush of this number isn't done: fewer places are stable, and the engine is down by the device. The words told so twice, so
--- the later stable number was loaded after a fault word that told that the engine is down, behind which none more becomes stable.
+-- A flush of this number isn't done: fewer places are stable, and the engine is down by the device. It was seen so twice, both words
+-- being loaded each time: behind a fault word that tells that the engine is down no more places become stable.
 pub record IsUndone (before now : Loads) (w : View) (number : ℕ) (d : Down) : Type 0 where
   pub between : Loads
   pub seen : View

@@ -60,8 +60,7 @@ impl<'g, L: Device, B: Device, G: Gate, T: Named> Front<'g, L, B, G, T> {
 
     /// Awaits a flush: polls, and while it is pending takes the lock, drains and settles. The number of the ticket is a whole
     /// number of segments, and no more than the cursor that the pass has seen. It may wait. An `Err` comes only where the
-    /// engine is down by that device and the stable number is below the ticket's: the pass has seen both, and has loaded the
-    /// stable number after a fault word that told that the engine was down.
+    /// engine is down by that device and the stable number is below the ticket's. The pass has then seen both, twice.
     pub fn wait_flush<R: Wait>(
         &self,
         rt: &R,

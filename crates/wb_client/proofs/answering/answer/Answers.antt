@@ -1,58 +1,25 @@
 -- Each kind of request has its line.
-use Rattle.std.proofs.Common.{ℕ, List, ◌≡◌, [], ◌∷◌, ◌++◌, length, true, false, ap, sym, ◌∙◌, subst, arith}
+use Rattle.std.proofs.Common.{ℕ, [], ◌∷◌, ◌++◌, length, ap, sym, subst, arith}
+use Rattle.std.specs.Prelude.{OnOk}
 use Rattle.std.proofs.lemmas.List.{with_items_is}
 use Rattle.std.proofs.lemmas.Result.{on_ok_weaker}
 use Rattle.wb_geometry.specs.Layout.{places}
 use Rattle.wb_steps.specs.Rule.{shape_of}
 use Rattle.wb_intake.specs.Passes.{client_of_pass, view_of}
-use Rattle.wb_intake.specs.declared.pass.Pass.{Pass}
-use Rattle.wb_script.specs.Valid.{IsAsked}
 use Rattle.wb_script.specs.declared.request.Request.{Request}
-use Rattle.wb_script.specs.declared.request.Request.TheVariants.{Write}
 use Rattle.wb_script.specs.declared.transcript.Line.{Line}
-use Rattle.wb_script.specs.declared.transcript.Line.TheVariants.{Wrote, Flushed, Deferred, Told, Heard}
+use Rattle.wb_script.specs.declared.transcript.Line.TheVariants.{Flushed, Deferred, Told, Heard}
 use Rattle.wb_client.specs.Played.{HasPlayed}
-use Rattle.wb_client.specs.Client.{ArePlayed, IsForced, AreTellers}
+use Rattle.wb_client.specs.Client.{ArePlayed, AreTellers, HasAnswered}
 use Rattle.wb_client.proofs.Lines.{played_flush, played_defer}
-use Rattle.wb_client.proofs.Clients.{IsLineOf, line_added, none_heard, wrote_line, forced_line}
+use Rattle.wb_client.proofs.Clients.{line_added, none_heard}
 use Rattle.wb_client.proofs.answering.answer.Goals as goal
-use Rattle.wb_client.proofs.answering.answer.Goals.{then-fua, else-fua}
 
--- the line of a write
-wrote : (g : _) (c : goal.After-push g) → IsLineOf g.T.Named.carried (client_of_pass c.args.pass.now) (view_of c.args.pass.now) (view_of c.if-fua.pass) [] [] c.args.request.now c.if-fua.line
-wrote g c =
-    let t = g.T.Named.carried in
-    let p = c.args.pass.now in
-    let client : ℕ = client_of_pass p in
-    let asked : IsAsked t.geometry.backing_sectors c.requires.asked.0 client (Write c.in-Write.sector c.in-Write.count c.in-Write.pattern c.in-Write.fua) =
-    subst (IsAsked t.geometry.backing_sectors c.requires.asked.0 client) c.in-Write.is c.requires.asked.1 in
-    let written = c.in_ok-places-in-Write.ensures.written in
-    let taken = c.in_ok-places-in-Write.places in
-    let stop = c.in_ok-places-in-Write.stop in
-    let P : Request → Pass → Line → Type 0 = λ r q line. IsLineOf t client (view_of p) (view_of q) [] [] r line in
-    elim c.if-fua.branch [
-      | then-fua w ↦
-          let is : c.args.request.now ≡ Write c.in-Write.sector c.in-Write.count c.in-Write.pattern true = c.in-Write.is ∙ ap (Write c.in-Write.sector c.in-Write.count c.in-Write.pattern) w.if-fua.true in
-          let u = c.write.new.pass in
-          let forced = subst (λ (n : ℕ). IsForced (places g.T.Named.carried.geometry) n (view_of u) (view_of w.forced-line.new.pass) taken stop w.forced-line.result) c.write.ensures.own.1 w.forced-line.ensures.forced in
-          subst (λ (line : Line). P c.args.request.now c.if-fua.pass line) (sym w.line-is)
-          (subst (λ (q : Pass). P c.args.request.now q w.forced-line.result) (sym w.pass-is)
-          (subst (λ (r : Request). P r w.forced-line.new.pass w.forced-line.result) (sym is)
-          (forced_line t client (view_of p) c.in-Write.sector c.in-Write.count c.in-Write.pattern taken asked.0.few (view_of u) (view_of w.forced-line.new.pass) stop w.forced-line.result written forced)))
-      | else-fua w ↦
-          let is : c.args.request.now ≡ Write c.in-Write.sector c.in-Write.count c.in-Write.pattern false = c.in-Write.is ∙ ap (Write c.in-Write.sector c.in-Write.count c.in-Write.pattern) w.if-fua.false in
-          let same : Wrote w.of-places.result stop ≡ Wrote taken stop = ap (λ (l : List ℕ). Wrote l stop) w.of-places.ensures in
-          subst (λ (line : Line). P c.args.request.now c.if-fua.pass line) (sym (w.line-is ∙ same))
-          (subst (λ (q : Pass). P c.args.request.now q (Wrote taken stop)) (sym w.pass-is)
-          (subst (λ (r : Request). P r c.write.new.pass (Wrote taken stop)) (sym is)
-          (wrote_line t client (view_of p) c.in-Write.sector c.in-Write.count c.in-Write.pattern taken asked.0.few (view_of c.write.new.pass) stop written)))
-    ]
-
-pub returns-after-fua-clause-answered : goal.returns-after-fua-clause-answered
-returns-after-fua-clause-answered g c =
+pub returns-in-Write-clause-answered : goal.returns-in-Write-clause-answered
+returns-in-Write-clause-answered g c =
     let client : ℕ = client_of_pass c.args.pass.now in
-    line_added c.push.result g.T.Named.carried client (view_of c.args.pass.now) (view_of c.if-fua.pass) [] [] c.args.request.now c.if-fua.line c.args.work.now _ (wrote g c)
-    (none_heard client c.args.work.now.tellers.items) c.push.ensures.ok
+    subst (λ (r : Request). OnOk c.answer_write.result (HasAnswered g.T.Named.carried client (view_of c.args.pass.now) (view_of c.answer_write.new.pass) r c.args.work.now c.answer_write.new.work)) (sym c.in-Write.is)
+    c.answer_write.ensures.answered
 
 pub returns-in-Read-clause-answered : goal.returns-in-Read-clause-answered
 returns-in-Read-clause-answered g c =
@@ -76,8 +43,8 @@ returns-in-ReadSum-clause-answered g c =
     let w = view_of c.read_sum-line.new.pass in
     let line : Line = c.read_sum-line.result in
     let played = subst (λ (r : Request). ArePlayed g.T.Named.carried client v w [] [] (r ∷ []) (line ∷ [])) (sym c.in-ReadSum.is) c.read_sum-line.ensures.answered in
-    line_added c.push-in-ReadSum.result g.T.Named.carried client v w [] [] c.args.request.now line c.args.work.now _
-    (record { played = played; posted = c.read_sum-line.ensures.posted }) (none_heard client c.args.work.now.tellers.items) c.push-in-ReadSum.ensures.ok
+    line_added c.push.result g.T.Named.carried client v w [] [] c.args.request.now line c.args.work.now _
+    (record { played = played; posted = c.read_sum-line.ensures.posted }) (none_heard client c.args.work.now.tellers.items) c.push.ensures.ok
 
 pub returns-in-Flush-clause-answered : goal.returns-in-Flush-clause-answered
 returns-in-Flush-clause-answered g c =

@@ -1,7 +1,5 @@
 -- Line after line is awaited.
-use Rattle.std.proofs.Common.{ℕ, ◌≡◌, ◌+◌, ◌<◌, ◌≤◌, List, map, max, length, get_or, refl, sym, ap, ◌∙◌, subst, arith}
-use Rattle.std.specs.Prelude.{slice_get, IfSome}
-use Rattle.std.proofs.lemmas.Option.{slice_get-get_or}
+use Rattle.std.proofs.Common.{ℕ, ◌≤◌, List, map, max, length, get_or, sym, ap, ◌∙◌, subst, arith}
 use Rattle.wb_intake.specs.Passes.{view_of}
 use Rattle.wb_script.specs.Keeping.{marked}
 use Rattle.wb_script.specs.Transcripts.{covered_line}

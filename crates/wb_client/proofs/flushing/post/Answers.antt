@@ -1,5 +1,5 @@
 -- The ticket tells what was posted.
-use Rattle.std.proofs.Common.{◌≡◌, refl}
+use Rattle.std.proofs.Common.{refl}
 use Rattle.wb_geometry.specs.Layout.{places}
 use Rattle.wb_intake.specs.Passes.{client_of_pass, view_of, loads_of}
 use Rattle.wb_client.proofs.Passes.{numbered_posted}

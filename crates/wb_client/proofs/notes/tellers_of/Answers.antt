@@ -1,5 +1,5 @@
 -- All clients are there, and no note was heard.
-use Rattle.std.proofs.Common.{◌≡◌, ◌<◌, List, length, ap, ◌∙◌, arith}
+use Rattle.std.proofs.Common.{◌≡◌, length, ap, ◌∙◌, arith}
 use Rattle.wb_client.proofs.Tellers.{tellers_none}
 use Rattle.wb_client.proofs.notes.tellers_of.Goals as goal
 

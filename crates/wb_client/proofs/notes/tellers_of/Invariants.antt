@@ -1,5 +1,5 @@
 -- The clients before this one are there, and of none a note was heard.
-use Rattle.std.proofs.Common.{ℕ, ◌≡◌, ◌<◌, slice_get, length, [], get_or}
+use Rattle.std.proofs.Common.{ℕ, ◌≡◌, ◌<◌, length, get_or}
 use Rattle.wb_script.specs.Valid.{requests_at}
 use Rattle.wb_client.specs.declared.teller.Teller.{Teller}
 use Rattle.wb_client.proofs.notes.tellers_of.Given as goal

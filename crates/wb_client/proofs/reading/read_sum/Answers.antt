@@ -1,5 +1,5 @@
 -- The device that failed.
-use Rattle.std.proofs.Common.{◌≡◌, ◌*◌, inr, refl}
+use Rattle.std.proofs.Common.{◌*◌, inr, refl}
 use Rattle.wb_steps.specs.Rule.{shape_of}
 use Rattle.wb_intake.specs.Passes.{client_of_pass, view_of}
 use Rattle.wb_script.specs.declared.request.Request.TheVariants.{ReadSum}

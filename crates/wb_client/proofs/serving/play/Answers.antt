@@ -1,7 +1,7 @@
 -- Request after request is answered, and then the posted flushes are awaited.
-use Rattle.std.proofs.Common.{rules, ℕ, ◌≡◌, ◌+◌, ◌<◌, ◌≤◌, ◌^◌, [], List, length, take, get_or, None, refl, ap, sym, ◌∙◌, subst, arith}
+use Rattle.std.proofs.Common.{rules, ℕ, ◌≡◌, ◌<◌, ◌≤◌, ◌^◌, List, length, take, get_or, None, refl, ap, sym, ◌∙◌, subst, arith}
 use Rattle.std.proofs.lemmas.List.{take_all}
-use Rattle.wb_intake.specs.Passes.{client_of_pass, view_of}
+use Rattle.wb_intake.specs.Passes.{view_of}
 use Rattle.wb_script.specs.Valid.{IsAsked, requests_at}
 use Rattle.wb_script.specs.declared.request.Request.{Request}
 use Rattle.wb_client.specs.Client.{MayHear, HasAnswered}

@@ -1,10 +1,9 @@
 -- The front wrote the bytes of the pattern.
-use Rattle.std.proofs.Common.{ℕ, List, ◌≡◌, ◌+◌, ◌*◌, ◌/◌, ◌%◌, ◌≤◌, length, ◌∙◌, sym, ap, subst, arith}
+use Rattle.std.proofs.Common.{ℕ, List, ◌≡◌, ◌*◌, length, ◌∙◌, ap, arith}
 use Rattle.wb_steps.specs.Rule.{shape_of}
 use Rattle.wb_intake.specs.Passes.{client_of_pass, view_of, loads_of}
 use Rattle.wb_script.specs.Patterns.{repeated}
 use Rattle.wb_script.specs.Valid.{Fills}
-use Rattle.wb_script.specs.declared.transcript.Stop.TheVariants.{Whole}
 use Rattle.wb_buffers.proofs.Repeats.{length-repeated}
 use Rattle.wb_client.proofs.Fronts.{asked_many, taken_as_asked, fewer, not_stopped, stopped_for}
 use Rattle.wb_client.proofs.writing.write.Goals as goal
