@@ -163,6 +163,6 @@ pub marks_above : (number : ℕ) (v w : View) (lines awaited : List Line) → Ar
 marks_above number v w lines awaited posted are = elim are.marks [
   | inl same ↦ subst (All (IsMarkedAbove w.seen.stable)) (sym same) (All-weaker (IsPostedLine number v) (IsMarkedAbove w.seen.stable) (unmarked number w.seen.stable v) lines posted)
   | inr (device, down, same) ↦ subst (All (IsMarkedAbove w.seen.stable)) (sym same)
-    (All-map (IsMarkedAbove w.seen.stable) (marked w.seen.stable device) lines
-    (All-weaker (IsPostedLine number v) (λ (l : Line). IsMarkedAbove w.seen.stable (marked w.seen.stable device l)) (mark_above number w.seen.stable v device) lines posted))
+      (All-map (IsMarkedAbove w.seen.stable) (marked w.seen.stable device) lines
+      (All-weaker (IsPostedLine number v) (λ (l : Line). IsMarkedAbove w.seen.stable (marked w.seen.stable device l)) (mark_above number w.seen.stable v device) lines posted))
 ]

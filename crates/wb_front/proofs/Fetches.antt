@@ -1,5 +1,5 @@
 -- How a read under the lock keeps what the lock keeps.
-use Rattle.std.proofs.Common.{◌≡◌, inl, inr, ℕ, ◌+◌, ◌-◌, ◌*◌, ◌^◌, ◌<◌, ◌≤◌, true, min, List, length, sym, ap, ◌∙◌, subst, refl, arith, Option, Some, None, Result, Ok, Err}
+use Rattle.std.proofs.Common.{◌≡◌, ℕ, ◌+◌, ◌-◌, ◌*◌, ◌^◌, ◌<◌, true, min, List, length, sym, ap, ◌∙◌, subst, Result, Err}
 use Rattle.wb_geometry.specs.Device.{State, CountsFaultsWhere}
 use Rattle.wb_geometry.specs.History.{HistoryEntry, PutsPartly, after}
 use Rattle.wb_geometry.specs.Image.{Image, bytes_at}

@@ -1,9 +1,8 @@
-use Rattle.std.proofs.Common.{◌≡◌, ◌/◌, ℕ, length, Option, Result, Ok, Err, ap, refl, sym, ◌∙◌, subst}
+use Rattle.std.proofs.Common.{◌≡◌, ◌/◌, length, Option, Result, Ok, Err, ap, refl, sym, ◌∙◌, subst}
 use Rattle.std.proofs.lemmas.Result.{err_from_is_err_and}
 use Rattle.wb_geometry.specs.Device.{CountsFaultsWhere}
 use Rattle.wb_geometry.specs.declared.which.Which.{Which}
 use Rattle.wb_geometry.specs.declared.which.Which.TheVariants.{Log, Backing}
-use Rattle.wb_steps.specs.declared.view.Faults.{Faults}
 use Rattle.wb_steps.specs.declared.view.View.{View}
 use Rattle.wb_intake.specs.Passes.{drain_view}
 use Rattle.wb_front.specs.Words.{faults_of, HasCounted}

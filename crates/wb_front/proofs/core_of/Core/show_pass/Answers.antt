@@ -1,5 +1,5 @@
 -- The pass met the drain, read and looked, so it is shown.
-use Rattle.std.proofs.Common.{◌≡◌, ◌≤◌, length, sym, ap, ◌∙◌, subst, arith}
+use Rattle.std.proofs.Common.{◌≡◌, ◌≤◌, length, sym, ap, subst, arith}
 use Rattle.wb_steps.specs.declared.view.View.{View}
 use Rattle.wb_intake.specs.Passes.{view_of, drain_view}
 use Rattle.wb_front.specs.Joined.{CoreContent, drained}

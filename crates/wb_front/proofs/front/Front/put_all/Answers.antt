@@ -1,5 +1,5 @@
 -- Piece after piece is put until one is stopped.
-use Rattle.std.proofs.Common.{ℕ, ◌≡◌, ◌+◌, ◌++◌, ◌∷◌, [], List, length, map, ap, sym, ◌∙◌, subst, append_assoc, length-append, arith}
+use Rattle.std.proofs.Common.{ℕ, ◌≡◌, ◌++◌, ◌∷◌, [], List, length, map, ap, sym, ◌∙◌, subst, append_assoc, length-append, arith}
 use Rattle.std.specs.Vec.Iter.{into_iter_items}
 use Rattle.wb_steps.specs.Rule.{shape_of}
 use Rattle.wb_intake.specs.Passes.{client_of_pass, view_of, loads_of}

@@ -1,5 +1,5 @@
 -- No load was forgotten before the looks that found the engine down.
-use Rattle.std.proofs.Common.{◌≡◌, ◌≤◌, arith, subst, sym, ap}
+use Rattle.std.proofs.Common.{arith}
 use Rattle.wb_intake.specs.Passes.{view_of, loads_of}
 use Rattle.wb_front.proofs.Requests.{undone_sooner}
 use Rattle.wb_front.proofs.front.Front.wait_flush.Goals as goal

@@ -1,9 +1,7 @@
 -- The pieces are the entries of the write.
-use Rattle.std.proofs.Common.{ℕ, ◌≡◌, ◌/◌, ◌<◌, List, length, map, ◌∙◌, subst, arith}
-use Rattle.wb_geometry.specs.History.{HistoryEntry}
-use Rattle.wb_geometry.specs.Requests.{parts, entries_of}
+use Rattle.std.proofs.Common.{ℕ, ◌/◌, length, ◌∙◌, subst, arith}
 use Rattle.wb_intake.specs.Passes.{client_of_pass, view_of}
-use Rattle.wb_front.specs.Requests.{HasPut, written}
+use Rattle.wb_front.specs.Requests.{HasPut}
 use Rattle.wb_front.proofs.Requests.{ok_weaker, err_weaker, pieces_long}
 use Rattle.wb_front.proofs.front.Front.write.Goals as goal
 

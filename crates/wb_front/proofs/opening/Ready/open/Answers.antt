@@ -1,9 +1,9 @@
-use Rattle.std.proofs.Common.{◌≡◌, inr, refl, sym, ap, ◌∙◌, subst}
+use Rattle.std.proofs.Common.{inr, refl, sym, ap, ◌∙◌, subst}
 use Rattle.wb_steps.specs.Rule.{shape_of, cells}
 use Rattle.wb_steps.specs.Views.{beginning}
 use Rattle.wb_steps.specs.declared.shape.Shape.{Shape}
 use Rattle.wb_steps.specs.declared.view.Role.TheVariants.{Drain as TheDrain}
-use Rattle.wb_intake.specs.Passes.{name_of, numbers_of, AreNewcomers}
+use Rattle.wb_intake.specs.Passes.{name_of, AreNewcomers}
 use Rattle.wb_engine.specs.Opening.{HasRecovered}
 use Rattle.wb_front.proofs.opening.Ready.open.Goals as goal
 
