@@ -1,0 +1,14 @@
+//! Sessions on threads over devices in memory. Which answers come isn't determined, so that a checker of its own reads them:
+//! a plain program over the transcripts, `history` and `legal`, and one of recovery, `leaving`.
+mod drawing;
+mod held;
+mod history;
+mod leaving;
+mod legal;
+mod seeded;
+mod serving;
+
+const SECTOR_BYTES: usize = 512;
+
+/// The sectors of a backing device.
+const SECTORS: usize = 64;

@@ -1,0 +1,243 @@
+//! The history that transcripts print, and the images that its first entries make. A sector is told by its stamp: the two
+//! bytes that, repeated, fill it.
+use super::{SECTORS, SECTOR_BYTES};
+use std::alloc::{AllocError, Global};
+use wb_script::{Ended, Line, Request, Script, Stop, Transcript};
+
+/// An image of the backing device, by the stamps of its sectors. 0 is the stamp of no sector that is filled so.
+pub type Image = [u16; SECTORS];
+
+/// The image before a session: each sector has a stamp of its own.
+pub fn base() -> Image {
+    let mut image = [0; SECTORS];
+    for (sector, stamp) in image.iter_mut().enumerate() {
+        *stamp = 0x8000 | (sector % 64) as u16;
+    }
+    image
+}
+
+/// The stamp of a sector that these bytes fill, or 0.
+pub fn stamp_of(sector: &[u8]) -> u16 {
+    let pair = match sector {
+        [] => return 0,
+        [one] => [*one, *one],
+        [first, second, ..] => [*first, *second],
+    };
+    if sector.chunks_exact(2).all(|two| two == pair.as_slice()) {
+        u16::from_be_bytes(pair)
+    } else {
+        0
+    }
+}
+
+/// The image that these bytes are.
+pub fn image_of(bytes: &[u8]) -> Image {
+    let mut image = [0; SECTORS];
+    for (stamp, sector) in image.iter_mut().zip(bytes.chunks_exact(SECTOR_BYTES)) {
+        *stamp = stamp_of(sector);
+    }
+    image
+}
+
+/// The bytes of so many sectors of an image, from this one on.
+pub fn bytes_of(
+    alloc: Global,
+    image: &Image,
+    sector: u64,
+    count: u64,
+) -> Result<Vec<u8>, AllocError> {
+    let mut bytes = Vec::new(alloc);
+    for stamp in image.iter().skip(sector as usize).take(count as usize) {
+        for _ in 0..SECTOR_BYTES / 2 {
+            bytes.extend_from_slice(stamp.to_be_bytes().as_slice())?;
+        }
+    }
+    Ok(bytes)
+}
+
+/// An entry at a place: none is printed yet, one that changes nothing, or one that gives so many sectors a stamp.
+#[derive(Clone, Copy, PartialEq, Eq)]
+pub enum Entry {
+    Missing,
+    Void,
+    Put {
+        sector: u64,
+        count: u64,
+        stamp: u16,
+    },
+}
+
+impl Entry {
+    /// Puts the entry.
+    pub fn put(&self, image: &mut Image) {
+        let Entry::Put {
+            sector,
+            count,
+            stamp,
+        } = *self
+        else {
+            return;
+        };
+        for place in image.iter_mut().skip(sector as usize).take(count as usize) {
+            *place = stamp;
+        }
+    }
+}
+
+/// A history of so many entries, in segments of so many places.
+#[derive(Drop)]
+pub struct History {
+    pub entries: Vec<Entry>,
+    pub places: u64,
+}
+
+impl History {
+    /// The image that the first entries make, so many.
+    pub fn image(&self, count: u64) -> Image {
+        let mut image = base();
+        for entry in self.entries.iter().take(count as usize) {
+            entry.put(&mut image);
+        }
+        image
+    }
+
+    /// The number of entries.
+    pub fn len(&self) -> u64 {
+        self.entries.len() as u64
+    }
+
+    /// Prints an entry at a place. Answers whether this is one of the history's, at which none was printed before.
+    fn print(&mut self, place: u64, entry: Entry) -> bool {
+        match self.entries.get_mut(place as usize) {
+            Some(slot) => {
+                let was_missing = *slot == Entry::Missing;
+                *slot = entry;
+                was_missing
+            }
+            None => false,
+        }
+    }
+
+    /// Prints the places of a flush, none of which is the first of a segment.
+    fn print_voids(&mut self, ended: &Ended) -> bool {
+        for place in ended.through.saturating_sub(ended.voids)..ended.through {
+            if place % self.places.max(1) == 0 || !self.print(place, Entry::Void) {
+                return false;
+            }
+        }
+        ended.voids <= ended.through
+    }
+
+    /// Prints the parts of a write, one for each block, at these places: all where it is whole, and else fewer.
+    fn print_write(
+        &mut self,
+        range: (u64, u64),
+        stamp: u16,
+        places: &[u64],
+        stop: Stop,
+    ) -> bool {
+        let (mut sector, end) = range;
+        for place in places {
+            let next = (sector / 8 * 8).saturating_add(8).min(end);
+            let count = next.saturating_sub(sector);
+            let entry = Entry::Put {
+                sector,
+                count,
+                stamp,
+            };
+            if count == 0 || !self.print(*place, entry) {
+                return false;
+            }
+            sector = next;
+        }
+        (sector == end) == (stop == Stop::Whole)
+    }
+
+    /// Prints what a line does, which is of the request's kind.
+    fn print_line(&mut self, request: &Request, line: &Line<'_>) -> bool {
+        match (request, line) {
+            (
+                Request::Write {
+                    sector,
+                    count,
+                    pattern,
+                    fua,
+                },
+                Line::Wrote { places, stop },
+            ) => {
+                let range = (*sector, sector.saturating_add(*count));
+                !*fua && self.print_write(range, stamp_of(pattern.as_slice()), places.as_slice(), *stop)
+            }
+            (
+                Request::Write {
+                    sector,
+                    count,
+                    pattern,
+                    fua,
+                },
+                Line::Forced {
+                    places,
+                    flush,
+                    stop,
+                },
+            ) => {
+                let range = (*sector, sector.saturating_add(*count));
+                let stamp = stamp_of(pattern.as_slice());
+                *fua && self.print_write(range, stamp, places.as_slice(), *stop)
+                    && self.print_forced(flush, *stop)
+            }
+            (Request::Flush, Line::Flushed { ended }) => self.print_voids(ended),
+            (Request::Defer, Line::Deferred { ended }) => self.print_voids(ended),
+            (Request::Read { .. }, Line::Got { .. } | Line::Failed { .. }) => true,
+            (Request::ReadSum { .. }, Line::Summed { .. } | Line::Failed { .. }) => true,
+            (Request::Tell { .. }, Line::Told) => true,
+            (Request::Hear { .. }, Line::Heard) => true,
+            _ => false,
+        }
+    }
+
+    /// Prints the flush behind a write, which is there exactly where that is whole.
+    fn print_forced(&mut self, flush: &Option<Ended>, stop: Stop) -> bool {
+        match flush {
+            Some(ended) => stop == Stop::Whole && self.print_voids(ended),
+            None => stop != Stop::Whole,
+        }
+    }
+
+    /// Prints what the lines of a client do, one for each request.
+    fn print_client(&mut self, requests: &[Request], transcript: &Transcript) -> bool {
+        for (index, request) in requests.iter().enumerate() {
+            let Some(line) = transcript.get(index) else {
+                return false;
+            };
+            if !self.print_line(request, &line) {
+                return false;
+            }
+        }
+        transcript.len() == requests.len()
+    }
+}
+
+/// The history of so many places that the transcripts print, in segments of so many, where they print each place once and no
+/// other.
+pub fn history_of(
+    alloc: Global,
+    script: &Script,
+    transcripts: &[Transcript],
+    taken: u64,
+    places: u64,
+) -> Result<Option<History>, AllocError> {
+    let mut history = History {
+        entries: Vec::new(alloc),
+        places,
+    };
+    for _ in 0..taken {
+        history.entries.push(Entry::Missing)?;
+    }
+    let mut is_printed = transcripts.len() == script.requests().len();
+    for (requests, transcript) in script.requests().iter().zip(transcripts) {
+        is_printed = is_printed && history.print_client(requests.as_slice(), transcript);
+    }
+    let is_whole = history.entries.iter().all(|entry| *entry != Entry::Missing);
+    Ok((is_printed && is_whole).then_some(history))
+}
