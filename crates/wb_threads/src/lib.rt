@@ -4,5 +4,7 @@
 mod jobs;
 mod last_notes;
 mod serving;
+#[cfg(test)]
+mod tests;
 
 pub use serving::serve_all;
