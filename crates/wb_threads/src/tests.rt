@@ -1,10 +1,11 @@
-//! Sessions on threads over devices in memory. Which answers come isn't determined, so that a checker of its own reads them:
-//! a plain program over the transcripts, `history` and `legal`, and one of recovery, `leaving`.
+//! Sessions on threads over devices in memory. Where it isn't determined which answers come, a checker of its own reads them: a
+//! plain program over the transcripts, `history` and `legal`, and one of recovery, `leaving`.
 mod drawing;
 mod held;
 mod history;
 mod leaving;
 mod legal;
+mod printed;
 mod seeded;
 mod serving;
 

@@ -13,17 +13,18 @@ use wb_hold::{Hold, HoldRule};
 use wb_script::{Line, Script, Transcript};
 
 /// Four slots of three places each.
-const LOG: Shape = Shape {
+pub const LOG: Shape = Shape {
     order: 5,
     slots: 4,
     memory: 2,
     places: 3,
 };
 
-/// A script, the rules by which its two clients are held, and how often each client then has been answered and has read.
+/// A script, how its two clients are held, and how often each client then has been answered and has read. A client is held at
+/// its first arrival at a point until the other has been answered so often.
 struct Row {
     script: &'static str,
-    rules: &'static [HoldRule],
+    holds: &'static [(u32, Point, u64)],
     answered: (u64, u64),
     read: (u64, u64),
 }
@@ -31,7 +32,7 @@ struct Row {
 /// Neither client is held.
 const TWO_OUTPUTS: Row = Row {
     script: "clients 2\n0 w 0 1 aa\n0 t 1\n1 w 0 1 bb\n1 h 0\n1 r 0 1\n",
-    rules: &[],
+    holds: &[],
     answered: (2, 3),
     read: (0, 1),
 };
@@ -39,24 +40,7 @@ const TWO_OUTPUTS: Row = Row {
 /// Each client is held at its first answer until the other's first answer.
 const BOTH_ANSWER: Row = Row {
     script: "clients 2\n0 w 0 1 aa\n1 w 8 1 bb\n",
-    rules: &[
-        HoldRule {
-            client: 0,
-            point: Point::Answered,
-            nth: 1,
-            until: 1,
-            until_point: Point::Answered,
-            until_nth: 1,
-        },
-        HoldRule {
-            client: 1,
-            point: Point::Answered,
-            nth: 1,
-            until: 0,
-            until_point: Point::Answered,
-            until_nth: 1,
-        },
-    ],
+    holds: &[(0, Point::Answered, 1), (1, Point::Answered, 1)],
     answered: (1, 1),
     read: (0, 0),
 };
@@ -64,27 +48,26 @@ const BOTH_ANSWER: Row = Row {
 /// Each client is held in a read, with the lock, until the other's write is answered.
 const READS_HOLD: Row = Row {
     script: "clients 2\n0 r 0 1\n0 t 1\n0 w 0 1 aa\n1 w 8 1 bb\n1 h 0\n1 r 8 1\n",
-    rules: &[
-        HoldRule {
-            client: 0,
-            point: Point::InCore,
-            nth: 1,
-            until: 1,
-            until_point: Point::Answered,
-            until_nth: 1,
-        },
-        HoldRule {
-            client: 1,
-            point: Point::InCore,
-            nth: 1,
-            until: 0,
-            until_point: Point::Answered,
-            until_nth: 3,
-        },
-    ],
+    holds: &[(0, Point::InCore, 1), (1, Point::InCore, 3)],
     answered: (3, 3),
     read: (1, 1),
 };
+
+/// The gate of a row.
+fn gate_of(alloc: Global, row: &Row) -> Result<Hold, AllocError> {
+    let mut rules = Vec::new(alloc);
+    for (client, point, until_nth) in row.holds {
+        rules.push(HoldRule {
+            client: *client,
+            point: *point,
+            nth: 1,
+            until: 1u32.saturating_sub(*client),
+            until_point: Point::Answered,
+            until_nth: *until_nth,
+        })?;
+    }
+    Hold::of(alloc, rules, 2)
+}
 
 /// Whether no client was held for as long as it may be, and each came to its points as often as the row says.
 fn was_passed(hold: &Hold, row: &Row) -> bool {
@@ -126,7 +109,7 @@ fn are_of_two_outputs(transcripts: &[Transcript]) -> bool {
 fn is_output(row: &Row, left: &Devices) -> bool {
     match &left.answer {
         Ok(session) => session.places == 2
-            && (!row.rules.is_empty() || are_of_two_outputs(session.transcripts.as_slice())),
+            && (!row.holds.is_empty() || are_of_two_outputs(session.transcripts.as_slice())),
         Err(_) => false,
     }
 }
@@ -141,7 +124,7 @@ fn wrong_in_row<R: Threads + Wait + Sync>(
 ) -> Result<Option<&'static str>, AllocError>
     requires { IsValid script.now }
 {
-    let hold = Hold::of(alloc, Vec::from_slice(alloc, row.rules)?, 2)?;
+    let hold = gate_of(alloc, row)?;
     let never = (Failing::Never, Failing::Never);
     let left = serve(rt, alloc, &hold, script, log, never)?;
     if !was_passed(&hold, row) {

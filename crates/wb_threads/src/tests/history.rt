@@ -55,11 +55,10 @@ pub fn bytes_of(
     Ok(bytes)
 }
 
-/// An entry at a place: none is printed yet, one that changes nothing, or one that gives so many sectors a stamp.
+/// An entry at a place: none is printed yet, or one that gives so many sectors a stamp, which changes nothing at none.
 #[derive(Clone, Copy, PartialEq, Eq)]
 pub enum Entry {
     Missing,
-    Void,
     Put {
         sector: u64,
         count: u64,
@@ -67,24 +66,43 @@ pub enum Entry {
     },
 }
 
+/// An entry that changes nothing.
+const VOID: Entry = Entry::Put {
+    sector: 0,
+    count: 0,
+    stamp: 0,
+};
+
 impl Entry {
     /// Puts the entry.
     pub fn put(&self, image: &mut Image) {
-        let Entry::Put {
+        if let Entry::Put {
             sector,
             count,
             stamp,
         } = *self
-        else {
-            return;
-        };
-        for place in image.iter_mut().skip(sector as usize).take(count as usize) {
-            *place = stamp;
+        {
+            for place in image.iter_mut().skip(sector as usize).take(count as usize) {
+                *place = stamp;
+            }
         }
     }
 }
 
-/// A history of so many entries, in segments of so many places.
+/// The first sector that a request writes, the one behind its last, and their stamp.
+fn write_of(request: &Request) -> Option<(u64, u64, u16)> {
+    match request {
+        Request::Write {
+            sector,
+            count,
+            pattern,
+            ..
+        } => Some((*sector, sector.saturating_add(*count), stamp_of(pattern.as_slice()))),
+        _ => None,
+    }
+}
+
+/// A history, in segments of so many places.
 #[derive(Drop)]
 pub struct History {
     pub entries: Vec<Entry>,
@@ -118,10 +136,10 @@ impl History {
         }
     }
 
-    /// Prints the places of a flush, none of which is the first of a segment.
+    /// Prints the places that a flush took, none of which is the first of a segment.
     fn print_voids(&mut self, ended: &Ended) -> bool {
         for place in ended.through.saturating_sub(ended.voids)..ended.through {
-            if place % self.places.max(1) == 0 || !self.print(place, Entry::Void) {
+            if place % self.places.max(1) == 0 || !self.print(place, VOID) {
                 return false;
             }
         }
@@ -129,14 +147,10 @@ impl History {
     }
 
     /// Prints the parts of a write, one for each block, at these places: all where it is whole, and else fewer.
-    fn print_write(
-        &mut self,
-        range: (u64, u64),
-        stamp: u16,
-        places: &[u64],
-        stop: Stop,
-    ) -> bool {
-        let (mut sector, end) = range;
+    fn print_write(&mut self, request: &Request, places: &[u64], stop: Stop) -> bool {
+        let Some((mut sector, end, stamp)) = write_of(request) else {
+            return false;
+        };
         for place in places {
             let next = (sector / 8 * 8).saturating_add(8).min(end);
             let count = next.saturating_sub(sector);
@@ -153,54 +167,24 @@ impl History {
         (sector == end) == (stop == Stop::Whole)
     }
 
-    /// Prints what a line does, which is of the request's kind.
+    /// Prints what a line does that answers the request.
     fn print_line(&mut self, request: &Request, line: &Line<'_>) -> bool {
-        match (request, line) {
-            (
-                Request::Write {
-                    sector,
-                    count,
-                    pattern,
-                    fua,
-                },
-                Line::Wrote { places, stop },
-            ) => {
-                let range = (*sector, sector.saturating_add(*count));
-                !*fua && self.print_write(range, stamp_of(pattern.as_slice()), places.as_slice(), *stop)
+        match line {
+            Line::Wrote { places, stop } => self.print_write(request, places.as_slice(), *stop),
+            Line::Forced {
+                places,
+                flush,
+                stop,
+            } => {
+                let is_printed = self.print_write(request, places.as_slice(), *stop);
+                is_printed
+                    && match flush {
+                        Some(ended) => *stop == Stop::Whole && self.print_voids(ended),
+                        None => *stop != Stop::Whole,
+                    }
             }
-            (
-                Request::Write {
-                    sector,
-                    count,
-                    pattern,
-                    fua,
-                },
-                Line::Forced {
-                    places,
-                    flush,
-                    stop,
-                },
-            ) => {
-                let range = (*sector, sector.saturating_add(*count));
-                let stamp = stamp_of(pattern.as_slice());
-                *fua && self.print_write(range, stamp, places.as_slice(), *stop)
-                    && self.print_forced(flush, *stop)
-            }
-            (Request::Flush, Line::Flushed { ended }) => self.print_voids(ended),
-            (Request::Defer, Line::Deferred { ended }) => self.print_voids(ended),
-            (Request::Read { .. }, Line::Got { .. } | Line::Failed { .. }) => true,
-            (Request::ReadSum { .. }, Line::Summed { .. } | Line::Failed { .. }) => true,
-            (Request::Tell { .. }, Line::Told) => true,
-            (Request::Hear { .. }, Line::Heard) => true,
-            _ => false,
-        }
-    }
-
-    /// Prints the flush behind a write, which is there exactly where that is whole.
-    fn print_forced(&mut self, flush: &Option<Ended>, stop: Stop) -> bool {
-        match flush {
-            Some(ended) => stop == Stop::Whole && self.print_voids(ended),
-            None => stop != Stop::Whole,
+            Line::Flushed { ended } | Line::Deferred { ended } => self.print_voids(ended),
+            _ => true,
         }
     }
 
@@ -228,12 +212,9 @@ pub fn history_of(
     places: u64,
 ) -> Result<Option<History>, AllocError> {
     let mut history = History {
-        entries: Vec::new(alloc),
+        entries: vec![in alloc; Entry::Missing; taken as usize]?,
         places,
     };
-    for _ in 0..taken {
-        history.entries.push(Entry::Missing)?;
-    }
     let mut is_printed = transcripts.len() == script.requests().len();
     for (requests, transcript) in script.requests().iter().zip(transcripts) {
         is_printed = is_printed && history.print_client(requests.as_slice(), transcript);

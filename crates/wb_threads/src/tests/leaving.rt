@@ -2,17 +2,18 @@
 //! program that its definition describes.
 use super::history::{History, Image, base, image_of, stamp_of};
 use super::serving::Shape;
-use super::{SECTORS, SECTOR_BYTES};
+use super::SECTOR_BYTES;
 use std::alloc::{AllocError, Global};
 use wb_device::MemoryDevice;
 use wb_geometry::Which;
 use wb_header::{Found, Meta, check};
 use wb_script::{Ended, Line, Stop, Transcript};
 
-/// The device that a stop names.
-fn blamed_by_stop(stop: Stop) -> Option<Which> {
-    match stop {
-        Stop::Down { device } => Some(device),
+/// The flush of a line.
+fn flush_of(line: &Line<'_>) -> Option<Ended> {
+    match line {
+        Line::Forced { flush, .. } => *flush,
+        Line::Flushed { ended } | Line::Deferred { ended } => Some(*ended),
         _ => None,
     }
 }
@@ -20,107 +21,49 @@ fn blamed_by_stop(stop: Stop) -> Option<Which> {
 /// The device that a line says failed, or by which it says that the cache is down.
 fn blamed(line: &Line<'_>) -> Option<Which> {
     match line {
-        Line::Wrote { stop, .. } => blamed_by_stop(*stop),
-        Line::Forced { flush, stop, .. } => match flush {
-            Some(ended) => ended.down,
-            None => blamed_by_stop(*stop),
-        },
-        Line::Flushed { ended } | Line::Deferred { ended } => ended.down,
         Line::Failed { device } => Some(*device),
-        _ => None,
+        Line::Wrote { stop, .. } | Line::Forced { stop, flush: None, .. } => match *stop {
+            Stop::Down { device } => Some(device),
+            _ => None,
+        },
+        _ => match flush_of(line) {
+            Some(ended) => ended.down,
+            None => None,
+        },
     }
 }
 
-/// What a write says of its end.
-fn stop_of(line: &Line<'_>) -> Stop {
-    match line {
-        Line::Wrote { stop, .. } | Line::Forced { stop, .. } => *stop,
-        _ => Stop::Whole,
-    }
-}
-
-/// The number of a flush that was done, or 0.
-fn done_through(ended: &Ended) -> u64 {
-    if ended.down.is_none() { ended.through } else { 0 }
-}
-
-/// The number of the flush of a line that was done, or 0.
-fn covered_line(line: &Line<'_>) -> u64 {
-    match line {
-        Line::Forced {
-            flush: Some(ended),
-            ..
-        } => done_through(ended),
-        Line::Flushed { ended } | Line::Deferred { ended } => done_through(ended),
-        _ => 0,
-    }
-}
-
-/// What the lines of all clients say: how many writes were stopped and flushes weren't done, the most reads of one client that
-/// failed on the log and on the backing device, whether each blame has its cause, and the greatest number of a flush that was
-/// done.
+/// What the lines of all clients say: how many blame each device, and the greatest number of a flush that was done.
 #[derive(Clone, Copy)]
 pub struct Told {
-    pub stopped: u32,
-    pub undone: u32,
-    pub unread: (u64, u64),
-    pub has_causes: bool,
+    pub log: u32,
+    pub backing: u32,
     pub covered: u64,
 }
 
 impl Told {
-    /// Nothing yet.
-    pub fn none() -> Told {
-        Told {
-            stopped: 0,
-            undone: 0,
-            unread: (0, 0),
-            has_causes: true,
-            covered: 0,
-        }
-    }
-
-    /// Adds a line. The causes are whether each device failed, and whether a write may find no room.
-    fn add(&mut self, line: &Line<'_>, causes: &Causes) {
-        let has_cause = match blamed(line) {
-            Some(Which::Log) => causes.log > 0,
-            Some(Which::Backing) => causes.backing > 0,
-            None => true,
-        };
-        let stop = stop_of(line);
-        let is_stopped = stop != Stop::Whole;
-        let may_stop = !is_stopped || causes.is_full && stop != Stop::Ids;
-        let is_undone = blamed(line).is_some() && !is_stopped && !matches!(line, Line::Failed { .. });
-        self.has_causes = self.has_causes && has_cause && may_stop;
-        self.stopped = self.stopped.saturating_add(u32::from(is_stopped));
-        self.undone = self.undone.saturating_add(u32::from(is_undone));
-        self.covered = self.covered.max(covered_line(line));
-    }
-
-    /// Adds the lines of a client, of which no more say that a read of a device failed than it failed.
-    pub fn add_client(&mut self, transcript: &Transcript, causes: &Causes) {
-        let (mut log, mut backing) = (0u64, 0u64);
+    /// Adds the lines of a client.
+    pub fn add(&mut self, transcript: &Transcript) {
         for index in 0..transcript.len() {
             if let Some(line) = transcript.get(index) {
-                self.add(&line, causes);
-                match line {
-                    Line::Failed { device: Which::Log } => log = log.saturating_add(1),
-                    Line::Failed { device: Which::Backing } => backing = backing.saturating_add(1),
-                    _ => {}
-                }
+                self.add_line(&line);
             }
         }
-        self.has_causes = self.has_causes && log <= causes.log && backing <= causes.backing;
-        self.unread = (self.unread.0.max(log), self.unread.1.max(backing));
     }
-}
 
-/// How often the log and the backing device failed, and whether as many places were taken as segments in memory have.
-#[derive(Clone, Copy)]
-pub struct Causes {
-    pub log: u64,
-    pub backing: u64,
-    pub is_full: bool,
+    /// Adds a line.
+    fn add_line(&mut self, line: &Line<'_>) {
+        match blamed(line) {
+            Some(Which::Log) => self.log = self.log.saturating_add(1),
+            Some(Which::Backing) => self.backing = self.backing.saturating_add(1),
+            None => {}
+        }
+        if let Some(ended) = flush_of(line) {
+            if ended.down.is_none() {
+                self.covered = self.covered.max(ended.through);
+            }
+        }
+    }
 }
 
 /// The record, where a log has these bytes.
@@ -180,7 +123,7 @@ pub fn recover(shape: &Shape, log: &[u8], image: &mut Image) -> u64 {
     slots
 }
 
-/// The number of first segments of the history after which this is the image, where they cover so many places.
+/// The number of entries of the first segments of the history after which this is the image, where they cover so many places.
 fn cut_of(history: &History, image: &Image, covered: u64) -> Option<usize> {
     let places = history.places.max(1);
     let mut made = base();
@@ -198,7 +141,7 @@ const CHOICES: [&[u8]; 3] = [&[], &[1], &[0, 1, 2]];
 
 /// What recovery makes of the images that a crash now leaves, by each choice for the log and each for the backing device: how
 /// many are the image after the first segments, which cover so many places, and how many after fewer than all entries.
-#[derive(Clone, Copy, Debug, PartialEq, Eq)]
+#[derive(Clone, Copy, Debug)]
 pub struct Cuts {
     pub cuts: u32,
     pub short: u32,
@@ -206,7 +149,7 @@ pub struct Cuts {
 
 impl Cuts {
     /// Counts the images over this log.
-    fn over_log(
+    fn count(
         &mut self,
         alloc: Global,
         shape: &Shape,
@@ -240,7 +183,7 @@ pub fn cuts_of(
     let mut cuts = Cuts { cuts: 0, short: 0 };
     for choice in &CHOICES {
         let left = devices.0.crashed(alloc, choice)?;
-        cuts.over_log(alloc, shape, history, covered, left.bytes(), devices.1)?;
+        cuts.count(alloc, shape, history, covered, left.bytes(), devices.1)?;
     }
     Ok(cuts)
 }

@@ -23,13 +23,6 @@ struct Reader<'a> {
     seen: u64,
 }
 
-/// What a line shows of sectors: their bytes or their sum.
-#[derive(Clone, Copy)]
-enum Sight<'a> {
-    Bytes(&'a Shown<'a>),
-    Sum(u32),
-}
-
 impl<'a> Reader<'a> {
     /// Leaves a note.
     fn tell(&mut self, hearer: u32) -> Result<(), AllocError> {
@@ -65,7 +58,7 @@ impl<'a> Reader<'a> {
         true
     }
 
-    /// Whether a flush, and the places that it took, come behind all that was seen and inside the history, at a segment's end.
+    /// Whether a flush, and the places that it took, come behind all that was seen, at the end of a segment of the history.
     fn is_flush(&mut self, ended: &Ended) -> bool {
         let is_behind = self.seen <= ended.through.saturating_sub(ended.voids);
         self.seen = ended.through;
@@ -74,22 +67,27 @@ impl<'a> Reader<'a> {
             && ended.through % self.history.places.max(1) == 0
     }
 
-    /// Whether sectors are what the image holds after so many entries, and these are no fewer than were seen.
-    fn is_shown(
-        &mut self,
-        alloc: Global,
-        point: u64,
-        sectors: (u64, u64),
-        sight: &Sight<'_>,
-    ) -> Result<bool, AllocError> {
+    /// Whether a read comes behind all that was seen, inside the history.
+    fn is_point(&mut self, point: u64) -> bool {
         let is_behind = self.seen <= point && point <= self.history.len();
         self.seen = point;
-        let bytes = bytes_of(alloc, &self.history.image(point), sectors.0, sectors.1)?;
-        Ok(is_behind
-            && match sight {
-                Sight::Bytes(shown) => is_same(bytes.as_slice(), shown),
-                Sight::Sum(sum) => sum_of(bytes.as_slice()) == *sum,
-            })
+        is_behind
+    }
+
+    /// What the image after so many entries has in the sectors that a request reads.
+    fn bytes_at(
+        &self,
+        alloc: Global,
+        point: u64,
+        request: &Request,
+    ) -> Result<Vec<u8>, AllocError> {
+        let (sector, count) = match request {
+            Request::Read { sector, count } | Request::ReadSum { sector, count } => {
+                (*sector, *count)
+            }
+            _ => (0, 0),
+        };
+        bytes_of(alloc, &self.history.image(point), sector, count)
     }
 
     /// Whether a line is legal that answers the request.
@@ -100,19 +98,22 @@ impl<'a> Reader<'a> {
         line: &Line<'_>,
     ) -> Result<bool, AllocError> {
         Ok(match line {
-            Line::Wrote { places, .. } => self.rises(places.as_slice()),
-            Line::Forced { places, flush, .. } => self.rises(places.as_slice())
-                && match flush {
-                    Some(ended) => self.is_flush(ended),
-                    None => true,
-                },
+            Line::Wrote { places, .. } | Line::Forced { places, flush: None, .. } => {
+                self.rises(places.as_slice())
+            }
+            Line::Forced {
+                places,
+                flush: Some(ended),
+                ..
+            } => self.rises(places.as_slice()) && self.is_flush(ended),
             Line::Flushed { ended } | Line::Deferred { ended } => self.is_flush(ended),
             Line::Got { point, payload } => {
-                let sight = Sight::Bytes(payload);
-                self.is_shown(alloc, *point, sectors_of(request), &sight)?
+                let bytes = self.bytes_at(alloc, *point, request)?;
+                self.is_point(*point) && is_same(bytes.as_slice(), payload)
             }
             Line::Summed { point, sum } => {
-                self.is_shown(alloc, *point, sectors_of(request), &Sight::Sum(*sum))?
+                let bytes = self.bytes_at(alloc, *point, request)?;
+                self.is_point(*point) && sum_of(bytes.as_slice()) == *sum
             }
             Line::Failed { .. } => true,
             Line::Told => {
@@ -138,14 +139,6 @@ impl<'a> Reader<'a> {
             }
         }
         Ok(true)
-    }
-}
-
-/// The sectors that a request reads.
-fn sectors_of(request: &Request) -> (u64, u64) {
-    match request {
-        Request::Read { sector, count } | Request::ReadSum { sector, count } => (*sector, *count),
-        _ => (0, 0),
     }
 }
 

@@ -39,10 +39,10 @@ const SHAPES: [Shape; 4] = [
 ];
 
 /// The scripts for each log.
-const SCRIPTS: u32 = 1;
+const SCRIPTS: u32 = 25;
 
 /// How often each is served.
-const TIMES: u32 = 1;
+const TIMES: u32 = 3;
 
 /// How a device fails, of which a session's opening makes so many calls: in most sessions soon behind it.
 fn drawn_failing(dice: &mut Dice, opening: u32) -> Failing {
@@ -117,7 +117,7 @@ fn transcripts_on_threads_are_legal(rt: HostRuntime) -> Result<(), Fail> {
     let mut met = Met::none();
     let mut dice = Dice { state: 1 };
     all_go_well(&rt, rt.alloc(), &mut dice, false, &mut met)?;
-    assert!(rt; met.sessions == 32 && met.refused == 0 && met.short == 0, "{met:?}");
+    assert!(rt; met.sessions == 300 && met.refused == 0 && met.short == 0, "{met:?}");
     Ok(())
 }
 
@@ -126,7 +126,6 @@ fn a_crash_behind_faults_leaves_the_first_segments(rt: HostRuntime) -> Result<()
     let mut met = Met::none();
     let mut dice = Dice { state: 2 };
     all_go_well(&rt, rt.alloc(), &mut dice, true, &mut met)?;
-    assert!(rt; met.sessions + met.refused == 32, "{met:?}");
-    assert!(rt; met.stopped > 9 && met.undone > 9 && met.unread.1 > 9 && met.short > 9, "{met:?}");
+    assert!(rt; met.sessions > 250 && met.log > 99 && met.backing > 99 && met.short > 99, "{met:?}");
     Ok(())
 }

@@ -3,7 +3,7 @@ ghost use Rattle.std.specs.Prelude.{IfSome};
 ghost use Rattle.wb_script.specs.Valid.{IsValid};
 
 use super::history::{History, base, bytes_of, history_of, image_of};
-use super::leaving::{Causes, Cuts, Told, cuts_of, recorded_in, recover};
+use super::leaving::{Cuts, Told, cuts_of, recorded_in, recover};
 use super::legal::are_legal;
 use super::{SECTORS, SECTOR_BYTES};
 use crate::serve_all;
@@ -14,7 +14,7 @@ use std::thread::Threads;
 use wb_device::{FaultPlan, MemoryDevice, PlannedFault, SteadyDevice};
 use wb_front::Gate;
 use wb_geometry::Geometry;
-use wb_script::{Script, parse};
+use wb_script::{Script, Transcript, parse};
 use wb_serve::{Served, Session};
 use wb_super::format;
 
@@ -31,11 +31,6 @@ impl Shape {
     /// The bytes of a slot.
     pub fn slot_bytes(&self) -> usize {
         (self.places as usize % 128 + 1) * 4096
-    }
-
-    /// The places that the segments in memory have.
-    fn room(&self) -> u64 {
-        u64::from(self.places).saturating_mul(u64::from(self.memory))
     }
 }
 
@@ -62,12 +57,11 @@ impl Failing {
         Ok(FaultPlan { faults, stop })
     }
 
-    /// How many of so many calls failed.
-    fn faults(&self, calls: u64) -> u64 {
+    /// Whether one of so many calls failed.
+    fn has_failed(&self, calls: u64) -> bool {
         match *self {
-            Failing::Never => 0,
-            Failing::Once(call, _) => u64::from(call < calls),
-            Failing::From(call) => calls.saturating_sub(call),
+            Failing::Never => false,
+            Failing::Once(call, _) | Failing::From(call) => call < calls,
         }
     }
 }
@@ -114,17 +108,15 @@ pub fn serve<R: Threads + Wait + Sync, G: Gate + Sync>(
     Ok(serve_all(rt, alloc, log, backing, gate, script))
 }
 
-/// What was met in sessions: how many there were, how many writes were stopped, how many flushes weren't done, how many sessions
-/// had a read that failed on the log, and on the backing device, how many images that a crash left had fewer than all
-/// entries, and how many places changed nothing.
+/// What was met in sessions: how many were served and how many weren't, how many lines blamed the log and how many the backing
+/// device, and how many images that a crash left had fewer than all entries.
 #[derive(Clone, Copy, Debug)]
 pub struct Met {
     pub sessions: u32,
-    pub stopped: u32,
-    pub undone: u32,
-    pub unread: (u32, u32),
-    pub short: u32,
     pub refused: u32,
+    pub log: u32,
+    pub backing: u32,
+    pub short: u32,
 }
 
 impl Met {
@@ -132,21 +124,18 @@ impl Met {
     pub fn none() -> Met {
         Met {
             sessions: 0,
-            stopped: 0,
-            undone: 0,
-            unread: (0, 0),
-            short: 0,
             refused: 0,
+            log: 0,
+            backing: 0,
+            short: 0,
         }
     }
 
     /// Adds a session.
     fn add(&mut self, told: &Told, cuts: &Cuts) {
         self.sessions = self.sessions.saturating_add(1);
-        self.stopped = self.stopped.saturating_add(told.stopped);
-        self.undone = self.undone.saturating_add(told.undone);
-        self.unread.0 = self.unread.0.saturating_add(u32::from(told.unread.0 > 0));
-        self.unread.1 = self.unread.1.saturating_add(u32::from(told.unread.1 > 0));
+        self.log = self.log.saturating_add(told.log);
+        self.backing = self.backing.saturating_add(told.backing);
         self.short = self.short.saturating_add(cuts.short);
     }
 }
@@ -160,32 +149,17 @@ pub fn wrong_in(
     served: &Devices,
     met: &mut Met,
 ) -> Result<Option<&'static str>, AllocError> {
-    let causes = Causes {
-        log: failing.0.faults(served.log.calls()),
-        backing: failing.1.faults(served.backing.calls()),
-        is_full: false,
-    };
+    let log_failed = failing.0.has_failed(served.log.calls());
+    let backing_failed = failing.1.has_failed(served.backing.calls());
     let Ok(session) = &served.answer else {
         met.refused = met.refused.saturating_add(1);
-        let has_cause = causes.log > 0 || causes.backing > 0;
-        return Ok((!has_cause).then_some("the want of a session"));
+        return Ok((!log_failed && !backing_failed).then_some("the want of a session"));
     };
-    let causes = Causes {
-        is_full: session.places >= shape.room(),
-        ..causes
-    };
-    if !has_flags(shape, session, &causes) {
+    let has_flags = session.log_failed == log_failed && session.backing_failed == backing_failed;
+    if !has_flags || session.ids || session.first != u64::from(shape.slots) {
         return Ok(Some("a flag of the session"));
     }
-    wrong_session(alloc, shape, script, session, &causes, (&served.log, &served.backing), met)
-}
-
-/// Whether a session says of each device whether it failed, and began behind all slots.
-fn has_flags(shape: &Shape, session: &Session, causes: &Causes) -> bool {
-    session.log_failed == (causes.log > 0)
-        && session.backing_failed == (causes.backing > 0)
-        && !session.ids
-        && session.first == u64::from(shape.slots)
+    wrong_session(alloc, shape, script, session, (&served.log, &served.backing), met)
 }
 
 /// What is wrong in the transcripts of a session, or in what it left.
@@ -194,7 +168,6 @@ fn wrong_session(
     shape: &Shape,
     script: &Script,
     session: &Session,
-    causes: &Causes,
     devices: (&MemoryDevice, &MemoryDevice),
     met: &mut Met,
 ) -> Result<Option<&'static str>, AllocError> {
@@ -206,20 +179,43 @@ fn wrong_session(
     if !are_legal(alloc, script.requests(), transcripts, &history)? {
         return Ok(Some("a transcript"));
     }
-    let mut told = Told::none();
-    for transcript in transcripts {
-        told.add_client(transcript, causes);
-    }
-    if !told.has_causes {
+    let told = told_by(transcripts);
+    if told.log > 0 && !session.log_failed || told.backing > 0 && !session.backing_failed {
         return Ok(Some("a cause"));
     }
-    let is_whole = causes.log == 0 && causes.backing == 0;
-    if is_whole && !is_put(shape, &history, devices) {
+    wrong_end(alloc, shape, &history, session, &told, devices, met)
+}
+
+/// What all transcripts say.
+fn told_by(transcripts: &[Transcript]) -> Told {
+    let mut told = Told {
+        log: 0,
+        backing: 0,
+        covered: 0,
+    };
+    for transcript in transcripts {
+        told.add(transcript);
+    }
+    told
+}
+
+/// What is wrong in the images that a session left. Where no device failed, all its entries are there.
+fn wrong_end(
+    alloc: Global,
+    shape: &Shape,
+    history: &History,
+    session: &Session,
+    told: &Told,
+    devices: (&MemoryDevice, &MemoryDevice),
+    met: &mut Met,
+) -> Result<Option<&'static str>, AllocError> {
+    let is_whole = !session.log_failed && !session.backing_failed;
+    if is_whole && !is_put(shape, history, devices) {
         return Ok(Some("the end"));
     }
     let covered = if is_whole { u64::MAX } else { told.covered };
-    let cuts = cuts_of(alloc, shape, &history, covered, devices)?;
-    met.add(&told, &cuts);
+    let cuts = cuts_of(alloc, shape, history, covered, devices)?;
+    met.add(told, &cuts);
     Ok((cuts.cuts != 9).then_some("what a crash leaves"))
 }
 
