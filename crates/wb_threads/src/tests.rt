@@ -1,11 +1,10 @@
 //! Sessions on threads over devices in memory. Where it isn't determined which answers come, a checker of its own reads them: a
-//! plain program over the transcripts, `history` and `legal`, and one of recovery, `leaving`.
+//! plain program over the transcripts, `history` and `legal`, and one over what a crash leaves, `leaving`.
 mod drawing;
-mod held;
 mod history;
 mod leaving;
 mod legal;
-mod printed;
+mod rows;
 mod seeded;
 mod serving;
 

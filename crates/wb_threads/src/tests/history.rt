@@ -55,36 +55,20 @@ pub fn bytes_of(
     Ok(bytes)
 }
 
-/// An entry at a place: none is printed yet, or one that gives so many sectors a stamp, which changes nothing at none.
-#[derive(Clone, Copy, PartialEq, Eq)]
-pub enum Entry {
-    Missing,
-    Put {
-        sector: u64,
-        count: u64,
-        stamp: u16,
-    },
+/// An entry: so many sectors, from this one on, get a stamp. Of none it changes nothing.
+#[derive(Clone, Copy)]
+pub struct Entry {
+    sector: u64,
+    count: u64,
+    stamp: u16,
 }
-
-/// An entry that changes nothing.
-const VOID: Entry = Entry::Put {
-    sector: 0,
-    count: 0,
-    stamp: 0,
-};
 
 impl Entry {
     /// Puts the entry.
     pub fn put(&self, image: &mut Image) {
-        if let Entry::Put {
-            sector,
-            count,
-            stamp,
-        } = *self
-        {
-            for place in image.iter_mut().skip(sector as usize).take(count as usize) {
-                *place = stamp;
-            }
+        let sectors = image.iter_mut().skip(self.sector as usize);
+        for stamp in sectors.take(self.count as usize) {
+            *stamp = self.stamp;
         }
     }
 }
@@ -102,10 +86,10 @@ fn write_of(request: &Request) -> Option<(u64, u64, u16)> {
     }
 }
 
-/// A history, in segments of so many places.
+/// A history, in segments of so many places. Where no line has printed an entry yet it is missing.
 #[derive(Drop)]
 pub struct History {
-    pub entries: Vec<Entry>,
+    pub entries: Vec<Option<Entry>>,
     pub places: u64,
 }
 
@@ -113,7 +97,7 @@ impl History {
     /// The image that the first entries make, so many.
     pub fn image(&self, count: u64) -> Image {
         let mut image = base();
-        for entry in self.entries.iter().take(count as usize) {
+        for entry in self.entries.iter().take(count as usize).flatten() {
             entry.put(&mut image);
         }
         image
@@ -127,11 +111,7 @@ impl History {
     /// Prints an entry at a place. Answers whether this is one of the history's, at which none was printed before.
     fn print(&mut self, place: u64, entry: Entry) -> bool {
         match self.entries.get_mut(place as usize) {
-            Some(slot) => {
-                let was_missing = *slot == Entry::Missing;
-                *slot = entry;
-                was_missing
-            }
+            Some(slot) => slot.replace(entry).is_none(),
             None => false,
         }
     }
@@ -139,7 +119,12 @@ impl History {
     /// Prints the places that a flush took, none of which is the first of a segment.
     fn print_voids(&mut self, ended: &Ended) -> bool {
         for place in ended.through.saturating_sub(ended.voids)..ended.through {
-            if place % self.places.max(1) == 0 || !self.print(place, VOID) {
+            let void = Entry {
+                sector: 0,
+                count: 0,
+                stamp: 0,
+            };
+            if place % self.places.max(1) == 0 || !self.print(place, void) {
                 return false;
             }
         }
@@ -154,7 +139,7 @@ impl History {
         for place in places {
             let next = (sector / 8 * 8).saturating_add(8).min(end);
             let count = next.saturating_sub(sector);
-            let entry = Entry::Put {
+            let entry = Entry {
                 sector,
                 count,
                 stamp,
@@ -212,13 +197,13 @@ pub fn history_of(
     places: u64,
 ) -> Result<Option<History>, AllocError> {
     let mut history = History {
-        entries: vec![in alloc; Entry::Missing; taken as usize]?,
+        entries: vec![in alloc; None; taken as usize]?,
         places,
     };
     let mut is_printed = transcripts.len() == script.requests().len();
     for (requests, transcript) in script.requests().iter().zip(transcripts) {
         is_printed = is_printed && history.print_client(requests.as_slice(), transcript);
     }
-    let is_whole = history.entries.iter().all(|entry| *entry != Entry::Missing);
+    let is_whole = history.entries.iter().all(|entry| entry.is_some());
     Ok((is_printed && is_whole).then_some(history))
 }

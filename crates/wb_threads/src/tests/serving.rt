@@ -1,9 +1,9 @@
 //! A session on threads over devices in memory, and what is wrong in what it leaves.
-ghost use Rattle.std.specs.Prelude.{IfSome};
+ghost use Rattle.std.specs.Prelude.{IfOk};
 ghost use Rattle.wb_script.specs.Valid.{IsValid};
 
 use super::history::{History, base, bytes_of, history_of, image_of};
-use super::leaving::{Cuts, Told, cuts_of, recorded_in, recover};
+use super::leaving::{cuts_of, told_by};
 use super::legal::are_legal;
 use super::{SECTORS, SECTOR_BYTES};
 use crate::serve_all;
@@ -14,55 +14,33 @@ use std::thread::Threads;
 use wb_device::{FaultPlan, MemoryDevice, PlannedFault, SteadyDevice};
 use wb_front::Gate;
 use wb_geometry::Geometry;
-use wb_script::{Script, Transcript, parse};
+use wb_script::{Script, parse};
 use wb_serve::{Served, Session};
 use wb_super::format;
 
-/// A log: its order, its slots, the segments in memory, and the places of a segment.
-#[derive(Debug)]
-pub struct Shape {
-    pub order: u32,
-    pub slots: u32,
-    pub memory: u32,
-    pub places: u32,
-}
-
-impl Shape {
-    /// The bytes of a slot.
-    pub fn slot_bytes(&self) -> usize {
-        (self.places as usize % 128 + 1) * 4096
-    }
-}
-
-/// Which calls of a device fail, of those numbered from 0.
+/// How a device fails: at this call, counted from 0, alone, which stores so many sectors first if it is a write; or, where none
+/// are named, at this call and at each behind it.
 #[derive(Clone, Copy, Debug)]
-pub enum Failing {
-    Never,
-    /// This one alone. If it is a write, it stores so many sectors.
-    Once(u64, u64),
-    /// This one and each behind it.
-    From(u64),
+pub struct Failing {
+    pub call: u64,
+    pub sectors: Option<u64>,
 }
+
+/// It never fails.
+pub const NEVER: Failing = Failing {
+    call: u64::MAX,
+    sectors: None,
+};
 
 impl Failing {
     /// The plan by which a device fails so.
     fn plan(&self, alloc: Global) -> Result<FaultPlan, AllocError> {
-        let (faults, stop) = match *self {
-            Failing::Never => (Vec::new(alloc), None),
-            Failing::Once(call, sectors) => {
-                (vec![in alloc; PlannedFault { call, sectors }]?, None)
-            }
-            Failing::From(call) => (Vec::new(alloc), Some(call)),
+        let call = self.call;
+        let (faults, stop) = match self.sectors {
+            Some(sectors) => (vec![in alloc; PlannedFault { call, sectors }]?, None),
+            None => (Vec::new(alloc), Some(call)),
         };
         Ok(FaultPlan { faults, stop })
-    }
-
-    /// Whether one of so many calls failed.
-    fn has_failed(&self, calls: u64) -> bool {
-        match *self {
-            Failing::Never => false,
-            Failing::Once(call, _) | Failing::From(call) => call < calls,
-        }
     }
 }
 
@@ -70,24 +48,11 @@ impl Failing {
 pub type Devices = Served<MemoryDevice, MemoryDevice>;
 
 /// The bytes of a new log.
-pub fn new_log(alloc: Global, shape: &Shape) -> Result<Vec<u8>, Fail> {
-    let slots = shape.slot_bytes().saturating_mul(shape.slots as usize % 64);
-    let bytes = vec![in alloc; 0; (2048 * SECTOR_BYTES).saturating_add(slots)]?;
-    let mut log = SteadyDevice::of(bytes);
-    format(&mut log, &geometry(shape)?)?;
+pub fn new_log(alloc: Global, g: &Geometry) -> Result<Vec<u8>, Fail> {
+    let length = (g.log_sectors() as usize).saturating_mul(SECTOR_BYTES);
+    let mut log = SteadyDevice::of(vec![in alloc; 0; length]?);
+    format(&mut log, g)?;
     Ok(log.into_bytes())
-}
-
-/// A cache of 64 backing sectors on such a log.
-fn geometry(shape: &Shape) -> Result<Geometry, Fail> {
-    Ok(Geometry::new(shape.order, shape.slots, shape.memory, SECTORS as u64)?)
-}
-
-/// The script of this text.
-pub fn script_of(alloc: Global, shape: &Shape, text: &str) -> Result<Script, Fail>
-    ensures { IfOk result IsValid }
-{
-    Ok(parse(alloc, text.as_bytes(), &geometry(shape)?)?)
 }
 
 /// Serves a script over a log of these bytes and a backing device of the base image, which fail so.
@@ -108,125 +73,81 @@ pub fn serve<R: Threads + Wait + Sync, G: Gate + Sync>(
     Ok(serve_all(rt, alloc, log, backing, gate, script))
 }
 
-/// What was met in sessions: how many were served and how many weren't, how many lines blamed the log and how many the backing
-/// device, and how many images that a crash left had fewer than all entries.
+/// The script of this text.
+pub fn script_of(alloc: Global, g: &Geometry, text: &str) -> Result<Script, Fail>
+    ensures { IfOk result IsValid }
+{
+    Ok(parse(alloc, text.as_bytes(), g)?)
+}
+
+/// What was met in sessions: how many there were, how many lines blamed the log and how many the backing device, and of how many
+/// images that a crash left recovery made fewer than all entries.
 #[derive(Clone, Copy, Debug)]
 pub struct Met {
     pub sessions: u32,
-    pub refused: u32,
     pub log: u32,
     pub backing: u32,
     pub short: u32,
 }
 
-impl Met {
-    /// Nothing yet.
-    pub fn none() -> Met {
-        Met {
-            sessions: 0,
-            refused: 0,
-            log: 0,
-            backing: 0,
-            short: 0,
-        }
-    }
+/// Nothing yet.
+pub const NOTHING: Met = Met {
+    sessions: 0,
+    log: 0,
+    backing: 0,
+    short: 0,
+};
 
-    /// Adds a session.
-    fn add(&mut self, told: &Told, cuts: &Cuts) {
-        self.sessions = self.sessions.saturating_add(1);
-        self.log = self.log.saturating_add(told.log);
-        self.backing = self.backing.saturating_add(told.backing);
-        self.short = self.short.saturating_add(cuts.short);
-    }
-}
-
-/// What is wrong in a session that served a script over devices that fail so.
+/// What is wrong in a session that served a script over devices that fail so. That there is none may be for a device that failed.
 pub fn wrong_in(
     alloc: Global,
-    shape: &Shape,
+    g: &Geometry,
     script: &Script,
     failing: (Failing, Failing),
     served: &Devices,
     met: &mut Met,
 ) -> Result<Option<&'static str>, AllocError> {
-    let log_failed = failing.0.has_failed(served.log.calls());
-    let backing_failed = failing.1.has_failed(served.backing.calls());
+    let (log, backing) = (&served.log, &served.backing);
+    let failed = (failing.0.call < log.calls(), failing.1.call < backing.calls());
     let Ok(session) = &served.answer else {
-        met.refused = met.refused.saturating_add(1);
-        return Ok((!log_failed && !backing_failed).then_some("the want of a session"));
+        return Ok((!failed.0 && !failed.1).then_some("the want of a session"));
     };
-    let has_flags = session.log_failed == log_failed && session.backing_failed == backing_failed;
-    if !has_flags || session.ids || session.first != u64::from(shape.slots) {
-        return Ok(Some("a flag of the session"));
+    if session.log_failed != failed.0 || session.backing_failed != failed.1 || session.ids {
+        return Ok(Some("a flag"));
     }
-    wrong_session(alloc, shape, script, session, (&served.log, &served.backing), met)
-}
-
-/// What is wrong in the transcripts of a session, or in what it left.
-fn wrong_session(
-    alloc: Global,
-    shape: &Shape,
-    script: &Script,
-    session: &Session,
-    devices: (&MemoryDevice, &MemoryDevice),
-    met: &mut Met,
-) -> Result<Option<&'static str>, AllocError> {
     let transcripts = session.transcripts.as_slice();
-    let places = u64::from(shape.places);
-    let Some(history) = history_of(alloc, script, transcripts, session.places, places)? else {
+    let Some(history) = history_of(alloc, script, transcripts, session.places, g.places())? else {
         return Ok(Some("the history"));
     };
     if !are_legal(alloc, script.requests(), transcripts, &history)? {
         return Ok(Some("a transcript"));
     }
-    let told = told_by(transcripts);
-    if told.log > 0 && !session.log_failed || told.backing > 0 && !session.backing_failed {
-        return Ok(Some("a cause"));
-    }
-    wrong_end(alloc, shape, &history, session, &told, devices, met)
+    wrong_end(alloc, &history, session, (log, backing), met)
 }
 
-/// What all transcripts say.
-fn told_by(transcripts: &[Transcript]) -> Told {
-    let mut told = Told {
-        log: 0,
-        backing: 0,
-        covered: 0,
-    };
-    for transcript in transcripts {
-        told.add(transcript);
-    }
-    told
-}
-
-/// What is wrong in the images that a session left. Where no device failed, all its entries are there.
+/// What is wrong in the end of a session. Where no device failed, the backing device has what all entries make.
 fn wrong_end(
     alloc: Global,
-    shape: &Shape,
     history: &History,
     session: &Session,
-    told: &Told,
     devices: (&MemoryDevice, &MemoryDevice),
     met: &mut Met,
 ) -> Result<Option<&'static str>, AllocError> {
+    let told = told_by(session.transcripts.as_slice());
+    if told.log > 0 && !session.log_failed || told.backing > 0 && !session.backing_failed {
+        return Ok(Some("a cause"));
+    }
     let is_whole = !session.log_failed && !session.backing_failed;
-    if is_whole && !is_put(shape, history, devices) {
-        return Ok(Some("the end"));
+    if is_whole && image_of(devices.1.bytes()) != history.image(history.len()) {
+        return Ok(Some("the backing device"));
     }
     let covered = if is_whole { u64::MAX } else { told.covered };
-    let cuts = cuts_of(alloc, shape, history, covered, devices)?;
-    met.add(told, &cuts);
-    Ok((cuts.cuts != 9).then_some("what a crash leaves"))
-}
-
-/// Whether the backing device has what all entries make, and the log's record is that of the last segment, which has none behind
-/// it.
-fn is_put(shape: &Shape, history: &History, devices: (&MemoryDevice, &MemoryDevice)) -> bool {
-    let places = history.places.max(1);
-    let segments = history.len().div_ceil(places);
-    let log = devices.0.bytes();
-    let mut image = image_of(devices.1.bytes());
-    image == history.image(history.len())
-        && recorded_in(log) == segments.saturating_add(u64::from(shape.slots))
-        && recover(shape, log, &mut image) == 0
+    let Some(short) = cuts_of(alloc, history, covered, devices)? else {
+        return Ok(Some("what a crash leaves"));
+    };
+    met.sessions = met.sessions.saturating_add(1);
+    met.log = met.log.saturating_add(told.log);
+    met.backing = met.backing.saturating_add(told.backing);
+    met.short = met.short.saturating_add(short);
+    Ok(None)
 }
