@@ -44,7 +44,7 @@ fn put_range(
     script.push('\n')
 }
 
-/// Adds a line that leaves a note for a client above this one, and one that hears it, before or behind.
+/// Adds a line that leaves a note for a client above this one, and one that hears it.
 fn put_note(
     script: &mut String,
     dice: &mut Dice,
@@ -53,11 +53,7 @@ fn put_note(
 ) -> Result<(), AllocError> {
     let above = client.saturating_add(1);
     let other = above.saturating_add(dice.below(clients.saturating_sub(above)));
-    if dice.below(2) == 0 {
-        write!(script, "{other} h {client}\n{client} t {other}\n")
-    } else {
-        write!(script, "{client} t {other}\n{other} h {client}\n")
-    }
+    write!(script, "{client} t {other}\n{other} h {client}\n")
 }
 
 /// Adds a line, or two for a note. The last client leaves none.

@@ -1,6 +1,6 @@
 //! The history that transcripts print, and the images that its first entries make. A sector is told by its stamp: the two
 //! bytes that, repeated, fill it.
-use super::{SECTORS, SECTOR_BYTES};
+use super::{SECTOR_BYTES, SECTORS};
 use std::alloc::{AllocError, Global};
 use wb_script::{Ended, Line, Request, Script, Stop, Transcript};
 
@@ -81,7 +81,11 @@ fn write_of(request: &Request) -> Option<(u64, u64, u16)> {
             count,
             pattern,
             ..
-        } => Some((*sector, sector.saturating_add(*count), stamp_of(pattern.as_slice()))),
+        } => Some((
+            *sector,
+            sector.saturating_add(*count),
+            stamp_of(pattern.as_slice()),
+        )),
         _ => None,
     }
 }
@@ -152,7 +156,7 @@ impl History {
         (sector == end) == (stop == Stop::Whole)
     }
 
-    /// Prints what a line does that answers the request.
+    /// Prints what a line does that answers the request. A flush stands behind a forced write exactly where that is whole.
     fn print_line(&mut self, request: &Request, line: &Line<'_>) -> bool {
         match line {
             Line::Wrote { places, stop } => self.print_write(request, places.as_slice(), *stop),
@@ -160,14 +164,9 @@ impl History {
                 places,
                 flush,
                 stop,
-            } => {
-                let is_printed = self.print_write(request, places.as_slice(), *stop);
-                is_printed
-                    && match flush {
-                        Some(ended) => *stop == Stop::Whole && self.print_voids(ended),
-                        None => *stop != Stop::Whole,
-                    }
-            }
+            } => flush.is_some() == (*stop == Stop::Whole)
+                && self.print_write(request, places.as_slice(), *stop)
+                && flush.is_none_or(|ended| self.print_voids(&ended)),
             Line::Flushed { ended } | Line::Deferred { ended } => self.print_voids(ended),
             _ => true,
         }

@@ -1,80 +1,42 @@
-//! What a session leaves: whom its lines blame and what they say is flushed, and what recovery makes of the images that a crash
-//! leaves.
+//! What the lines of a session say is flushed, and what recovery makes of the images that a crash leaves.
 use super::history::{History, Image, base, image_of};
 use std::alloc::{AllocError, Global};
 use wb_device::MemoryDevice;
-use wb_geometry::Which;
 use wb_replay::recover;
-use wb_script::{Ended, Line, Stop, Transcript};
+use wb_script::{Line, Transcript};
 
-/// The flush of a line.
-fn flush_of(line: &Line<'_>) -> Option<Ended> {
+/// The number of the flush of a line, where it was done, or 0.
+fn covered_in(line: &Line<'_>) -> u64 {
     match line {
-        Line::Forced { flush, .. } => *flush,
-        Line::Flushed { ended } | Line::Deferred { ended } => Some(*ended),
-        _ => None,
-    }
-}
-
-/// The device that a line says failed, or by which it says that the cache is down.
-fn blamed(line: &Line<'_>) -> Option<Which> {
-    if let Some(ended) = flush_of(line) {
-        return ended.down;
-    }
-    match line {
-        Line::Failed { device } => Some(*device),
-        Line::Wrote { stop, .. } | Line::Forced { stop, .. } => match *stop {
-            Stop::Down { device } => Some(device),
-            _ => None,
-        },
-        _ => None,
-    }
-}
-
-/// What lines say: how many blame the log, how many the backing device, and the greatest number of a flush that was done.
-#[derive(Clone, Copy)]
-pub struct Told {
-    pub log: u32,
-    pub backing: u32,
-    pub covered: u64,
-}
-
-impl Told {
-    /// Adds a line.
-    fn add(&mut self, line: &Line<'_>) {
-        match blamed(line) {
-            Some(Which::Log) => self.log = self.log.saturating_add(1),
-            Some(Which::Backing) => self.backing = self.backing.saturating_add(1),
-            None => {}
+        Line::Forced {
+            flush: Some(ended),
+            ..
         }
-        if let Some(ended) = flush_of(line) {
-            if ended.down.is_none() {
-                self.covered = self.covered.max(ended.through);
-            }
+        | Line::Flushed { ended }
+        | Line::Deferred { ended }
+            if ended.down.is_none() => ended.through,
+        _ => 0,
+    }
+}
+
+/// The greatest number of a flush that a client was told is done.
+fn covered_for(transcript: &Transcript) -> u64 {
+    let mut covered = 0;
+    for index in 0..transcript.len() {
+        if let Some(line) = transcript.get(index) {
+            covered = covered_in(&line).max(covered);
         }
     }
-
-    /// Adds the lines of a client.
-    fn add_client(&mut self, transcript: &Transcript) {
-        for index in 0..transcript.len() {
-            if let Some(line) = transcript.get(index) {
-                self.add(&line);
-            }
-        }
-    }
+    covered
 }
 
-/// What the lines of all clients say.
-pub fn told_by(transcripts: &[Transcript]) -> Told {
-    let mut told = Told {
-        log: 0,
-        backing: 0,
-        covered: 0,
-    };
+/// The greatest number of a flush that any client was told is done.
+pub fn covered_by(transcripts: &[Transcript]) -> u64 {
+    let mut covered = 0;
     for transcript in transcripts {
-        told.add_client(transcript);
+        covered = covered_for(transcript).max(covered);
     }
-    told
+    covered
 }
 
 /// The number of entries of the first segments of the history after which this is the image, where they cover so many places.

@@ -98,9 +98,12 @@ impl<'a> Reader<'a> {
         line: &Line<'_>,
     ) -> Result<bool, AllocError> {
         Ok(match line {
-            Line::Wrote { places, .. } | Line::Forced { places, flush: None, .. } => {
-                self.rises(places.as_slice())
-            }
+            Line::Wrote { places, .. }
+            | Line::Forced {
+                places,
+                flush: None,
+                ..
+            } => { self.rises(places.as_slice()) }
             Line::Forced {
                 places,
                 flush: Some(ended),

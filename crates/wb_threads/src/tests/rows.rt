@@ -92,110 +92,83 @@ fn is_wrong<R: Threads + Wait + Sync>(
     Ok(wrong_in_row(rt, alloc, &g, row, &script, log.as_slice())?)
 }
 
-/// The second client waits for the first, so that each answer is determined.
-const TWO_IN_TURN: Row<'static> = Row {
-    script: "clients 2\n0 w 0 1 aa\n0 t 1\n1 h 0\n1 r 0 1\n1 u 8 1 bb\n",
-    texts: &[
-        "0 w 0 1 at 0\n0 t 1\n1 h 0\n1 r 0 1 point 1 aa\n1 u 8 1 at 1 through 3 voids 1\nplaces 3\n",
-    ],
-    holds: &[],
-    answered: (2, 3),
-    read: (0, 1),
-};
+/// Rows of two clients.
+const ROWS: [Row<'static>; 4] = [
+    // The second client waits for the first, so that each answer is determined.
+    Row {
+        script: "clients 2\n0 w 0 1 aa\n0 t 1\n1 h 0\n1 r 0 1\n1 u 8 1 bb\n",
+        texts: &[
+            "0 w 0 1 at 0\n0 t 1\n1 h 0\n1 r 0 1 point 1 aa\n1 u 8 1 at 1 through 3 voids 1\nplaces 3\n",
+        ],
+        holds: &[],
+        answered: (2, 3),
+        read: (0, 1),
+    },
+    // Whoever writes last is read.
+    Row {
+        script: "clients 2\n0 w 0 1 aa\n0 t 1\n1 w 0 1 bb\n1 h 0\n1 r 0 1\n",
+        texts: &[
+            "0 w 0 1 at 0\n0 t 1\n1 w 0 1 at 1\n1 h 0\n1 r 0 1 point 2 bb\nplaces 2\n",
+            "0 w 0 1 at 1\n0 t 1\n1 w 0 1 at 0\n1 h 0\n1 r 0 1 point 2 aa\nplaces 2\n",
+        ],
+        holds: &[],
+        answered: (2, 3),
+        read: (0, 1),
+    },
+    // Each client is held at its first answer until the other's first answer.
+    Row {
+        script: "clients 2\n0 w 0 1 aa\n1 w 8 1 bb\n",
+        texts: &[
+            "0 w 0 1 at 0\n1 w 8 1 at 1\nplaces 2\n",
+            "0 w 0 1 at 1\n1 w 8 1 at 0\nplaces 2\n",
+        ],
+        holds: &[(0, Point::Answered, 1), (1, Point::Answered, 1)],
+        answered: (1, 1),
+        read: (0, 0),
+    },
+    // Each client is held in a read, with the lock, until the other's write is answered. Whether a read's point covers the
+    // other's write isn't determined; the first sector shows what it held before.
+    Row {
+        script: "clients 2\n0 r 0 1\n0 t 1\n0 w 0 1 aa\n1 w 8 1 bb\n1 h 0\n1 r 8 1\n",
+        texts: &[
+            "0 r 0 1 point 0 8000\n0 t 1\n0 w 0 1 at 1\n1 w 8 1 at 0\n1 h 0\n1 r 8 1 point 1 bb\nplaces 2\n",
+            "0 r 0 1 point 0 8000\n0 t 1\n0 w 0 1 at 1\n1 w 8 1 at 0\n1 h 0\n1 r 8 1 point 2 bb\nplaces 2\n",
+            "0 r 0 1 point 1 8000\n0 t 1\n0 w 0 1 at 1\n1 w 8 1 at 0\n1 h 0\n1 r 8 1 point 1 bb\nplaces 2\n",
+            "0 r 0 1 point 1 8000\n0 t 1\n0 w 0 1 at 1\n1 w 8 1 at 0\n1 h 0\n1 r 8 1 point 2 bb\nplaces 2\n",
+        ],
+        holds: &[(0, Point::InCore, 1), (1, Point::InCore, 3)],
+        answered: (3, 3),
+        read: (1, 1),
+    },
+];
 
 #[test]
-fn two_clients_are_served(rt: HostRuntime) -> Result<(), Fail> {
-    let wrong = is_wrong(&rt, rt.alloc(), &TWO_IN_TURN)?;
-    assert!(rt; wrong.is_none(), "{wrong:?}");
-    Ok(())
-}
-
-/// Whoever writes last is read.
-const TWO_OUTPUTS: Row<'static> = Row {
-    script: "clients 2\n0 w 0 1 aa\n0 t 1\n1 w 0 1 bb\n1 h 0\n1 r 0 1\n",
-    texts: &[
-        "0 w 0 1 at 0\n0 t 1\n1 w 0 1 at 1\n1 h 0\n1 r 0 1 point 2 bb\nplaces 2\n",
-        "0 w 0 1 at 1\n0 t 1\n1 w 0 1 at 0\n1 h 0\n1 r 0 1 point 2 aa\nplaces 2\n",
-    ],
-    holds: &[],
-    answered: (2, 3),
-    read: (0, 1),
-};
-
-#[test]
-fn two_clients_give_one_of_two_outputs(rt: HostRuntime) -> Result<(), Fail> {
-    let wrong = is_wrong(&rt, rt.alloc(), &TWO_OUTPUTS)?;
-    assert!(rt; wrong.is_none(), "{wrong:?}");
-    Ok(())
-}
-
-/// Each client is held at its first answer until the other's first answer.
-const BOTH_ANSWER: Row<'static> = Row {
-    script: "clients 2\n0 w 0 1 aa\n1 w 8 1 bb\n",
-    texts: &[
-        "0 w 0 1 at 0\n1 w 8 1 at 1\nplaces 2\n",
-        "0 w 0 1 at 1\n1 w 8 1 at 0\nplaces 2\n",
-    ],
-    holds: &[(0, Point::Answered, 1), (1, Point::Answered, 1)],
-    answered: (1, 1),
-    read: (0, 0),
-};
-
-#[test]
-fn clients_answer_side_by_side(rt: HostRuntime) -> Result<(), Fail> {
-    let wrong = is_wrong(&rt, rt.alloc(), &BOTH_ANSWER)?;
-    assert!(rt; wrong.is_none(), "{wrong:?}");
-    Ok(())
-}
-
-/// Each client is held in a read, with the lock, until the other's write is answered. Whether a read's point covers the other's
-/// write isn't determined; the first sector shows what it held before.
-const READS_HOLD: Row<'static> = Row {
-    script: "clients 2\n0 r 0 1\n0 t 1\n0 w 0 1 aa\n1 w 8 1 bb\n1 h 0\n1 r 8 1\n",
-    texts: &[
-        "0 r 0 1 point 0 8000\n0 t 1\n0 w 0 1 at 1\n1 w 8 1 at 0\n1 h 0\n1 r 8 1 point 1 bb\nplaces 2\n",
-        "0 r 0 1 point 0 8000\n0 t 1\n0 w 0 1 at 1\n1 w 8 1 at 0\n1 h 0\n1 r 8 1 point 2 bb\nplaces 2\n",
-        "0 r 0 1 point 1 8000\n0 t 1\n0 w 0 1 at 1\n1 w 8 1 at 0\n1 h 0\n1 r 8 1 point 1 bb\nplaces 2\n",
-        "0 r 0 1 point 1 8000\n0 t 1\n0 w 0 1 at 1\n1 w 8 1 at 0\n1 h 0\n1 r 8 1 point 2 bb\nplaces 2\n",
-    ],
-    holds: &[(0, Point::InCore, 1), (1, Point::InCore, 3)],
-    answered: (3, 3),
-    read: (1, 1),
-};
-
-#[test]
-fn a_write_needs_no_lock_that_a_read_holds(rt: HostRuntime) -> Result<(), Fail> {
-    let wrong = is_wrong(&rt, rt.alloc(), &READS_HOLD)?;
-    assert!(rt; wrong.is_none(), "{wrong:?}");
-    Ok(())
-}
-
-/// Adds what a client of 32 asks and what is answered: it hears the one before it, writes a sector, and leaves a note for the
-/// next.
-fn put_client(script: &mut String, text: &mut String, client: u32) -> Result<(), AllocError> {
-    let (before, next) = (client.saturating_sub(1), client.saturating_add(1));
-    if client > 0 {
-        write!(script, "{client} h {before}\n")?;
-        write!(text, "{client} h {before}\n")?;
-    }
-    write!(script, "{client} w {client} 1 {next:02x}\n")?;
-    write!(text, "{client} w {client} 1 at {client}\n")?;
-    if next < 32 {
-        write!(script, "{client} t {next}\n")?;
-        write!(text, "{client} t {next}\n")?;
+fn rows_print_what_they_may(rt: HostRuntime) -> Result<(), Fail> {
+    for row in &ROWS {
+        let wrong = is_wrong(&rt, rt.alloc(), row)?;
+        assert!(rt; wrong.is_none(), "{wrong:?} is wrong in {}", row.script);
     }
     Ok(())
 }
 
-/// A script of 32 clients, and what it prints. The last client reads what the first wrote.
+/// A script of 32 clients, and what it prints. Each but the last writes a sector and leaves a note for the next, which hears it
+/// before all else. The last reads what the first wrote.
 fn chain(alloc: Global) -> Result<(String, String), AllocError> {
     let (mut script, mut text) = (String::new(alloc), String::new(alloc));
     script.push_str("clients 32\n")?;
-    for client in 0..32 {
-        put_client(&mut script, &mut text, client)?;
+    for client in 0..31u32 {
+        let next = client + 1;
+        write!(
+            script,
+            "{client} w {client} 1 {next:02x}\n{client} t {next}\n{next} h {client}\n"
+        )?;
+        write!(
+            text,
+            "{client} w {client} 1 at {client}\n{client} t {next}\n{next} h {client}\n"
+        )?;
     }
     script.push_str("31 r 0 1\n31 f\n")?;
-    text.push_str("31 r 0 1 point 32 01\n31 f through 33 voids 1\nplaces 33\n")?;
+    text.push_str("31 r 0 1 point 31 01\n31 f through 33 voids 2\nplaces 33\n")?;
     Ok((script, text))
 }
 

@@ -17,25 +17,20 @@ use wb_script::Script;
 const LOGS: [(u32, u32, u32); 4] = [(4, 2, 2), (4, 8, 3), (5, 4, 2), (7, 3, 4)];
 
 /// The scripts for each log.
-const SCRIPTS: u32 = 2;
+const SCRIPTS: u32 = 25;
 
 /// How often each is served.
-const TIMES: u32 = 1;
+const TIMES: u32 = 3;
 
 /// How a device fails, of which a session's opening makes so many calls: in most sessions soon behind it.
 fn drawn_failing(dice: &mut Dice, opening: u32) -> Failing {
     let call = u64::from(dice.below(40).saturating_add(opening));
-    match dice.below(4) {
-        0 => NEVER,
-        1 => Failing {
-            call,
-            sectors: None,
-        },
-        _ => Failing {
-            call,
-            sectors: Some(u64::from(dice.below(4))),
-        },
-    }
+    let sectors = match dice.below(4) {
+        0 => return NEVER,
+        1 => None,
+        _ => Some(u64::from(dice.below(4))),
+    };
+    Failing { call, sectors }
 }
 
 /// Serves a script, and answers what is wrong.
@@ -73,7 +68,10 @@ fn go_well<R: Threads + Wait + Abort + Sync>(
             failing = (drawn_failing(dice, opening), drawn_failing(dice, 2));
         }
         let wrong = wrong_once(rt, alloc, g, &script, log, failing, met)?;
-        assert!(rt; wrong.is_none(), "{wrong:?} is wrong on {g:?}, {failing:?}:\n{text}");
+        assert!(rt;
+            wrong.is_none(),
+            "{wrong:?} is wrong on {g:?}, {failing:?}:\n{text}"
+        );
     }
     Ok(())
 }
@@ -102,7 +100,10 @@ fn transcripts_on_threads_are_legal(rt: HostRuntime) -> Result<(), Fail> {
     for log in &LOGS {
         all_go_well(&rt, rt.alloc(), *log, &mut dice, false, &mut met)?;
     }
-    assert!(rt; met.sessions == 4 * SCRIPTS * TIMES && met.short == 0, "{met:?}");
+    assert!(rt;
+        met.sessions == 4 * SCRIPTS * TIMES && met.short == 0,
+        "{met:?}"
+    );
     Ok(())
 }
 
@@ -114,6 +115,9 @@ fn a_crash_behind_faults_leaves_the_first_segments(rt: HostRuntime) -> Result<()
         all_go_well(&rt, rt.alloc(), *log, &mut dice, true, &mut met)?;
     }
     assert!(rt; met.sessions > 3 * SCRIPTS * TIMES, "{met:?}");
-    assert!(rt; met.log > 99 && met.backing > 99 && met.short > 99, "{met:?}");
+    assert!(rt;
+        met.log > SCRIPTS && met.backing > SCRIPTS && met.short > SCRIPTS,
+        "{met:?}"
+    );
     Ok(())
 }

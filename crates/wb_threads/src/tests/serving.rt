@@ -3,9 +3,9 @@ ghost use Rattle.std.specs.Prelude.{IfOk};
 ghost use Rattle.wb_script.specs.Valid.{IsValid};
 
 use super::history::{History, base, bytes_of, history_of, image_of};
-use super::leaving::{cuts_of, told_by};
+use super::leaving::{covered_by, cuts_of};
 use super::legal::are_legal;
-use super::{SECTORS, SECTOR_BYTES};
+use super::{SECTOR_BYTES, SECTORS};
 use crate::serve_all;
 use std::alloc::{AllocError, Global};
 use std::sync::Wait;
@@ -80,8 +80,8 @@ pub fn script_of(alloc: Global, g: &Geometry, text: &str) -> Result<Script, Fail
     Ok(parse(alloc, text.as_bytes(), g)?)
 }
 
-/// What was met in sessions: how many there were, how many lines blamed the log and how many the backing device, and of how many
-/// images that a crash left recovery made fewer than all entries.
+/// What was met: sessions, those in which the log failed, and the backing device, and images that a crash left of which recovery
+/// made fewer than all entries.
 #[derive(Clone, Copy, Debug)]
 pub struct Met {
     pub sessions: u32,
@@ -108,7 +108,10 @@ pub fn wrong_in(
     met: &mut Met,
 ) -> Result<Option<&'static str>, AllocError> {
     let (log, backing) = (&served.log, &served.backing);
-    let failed = (failing.0.call < log.calls(), failing.1.call < backing.calls());
+    let failed = (
+        failing.0.call < log.calls(),
+        failing.1.call < backing.calls(),
+    );
     let Ok(session) = &served.answer else {
         return Ok((!failed.0 && !failed.1).then_some("the want of a session"));
     };
@@ -133,21 +136,24 @@ fn wrong_end(
     devices: (&MemoryDevice, &MemoryDevice),
     met: &mut Met,
 ) -> Result<Option<&'static str>, AllocError> {
-    let told = told_by(session.transcripts.as_slice());
-    if told.log > 0 && !session.log_failed || told.backing > 0 && !session.backing_failed {
-        return Ok(Some("a cause"));
-    }
     let is_whole = !session.log_failed && !session.backing_failed;
     if is_whole && image_of(devices.1.bytes()) != history.image(history.len()) {
         return Ok(Some("the backing device"));
     }
-    let covered = if is_whole { u64::MAX } else { told.covered };
+    let transcripts = session.transcripts.as_slice();
+    let covered = if is_whole {
+        u64::MAX
+    } else {
+        covered_by(transcripts)
+    };
     let Some(short) = cuts_of(alloc, history, covered, devices)? else {
         return Ok(Some("what a crash leaves"));
     };
     met.sessions = met.sessions.saturating_add(1);
-    met.log = met.log.saturating_add(told.log);
-    met.backing = met.backing.saturating_add(told.backing);
+    met.log = met.log.saturating_add(u32::from(session.log_failed));
+    met.backing = met
+        .backing
+        .saturating_add(u32::from(session.backing_failed));
     met.short = met.short.saturating_add(short);
     Ok(None)
 }

@@ -83,6 +83,6 @@ returns-clause-session g c =
     (λ (s : Session). HasServed g.L.Device.state g.B.Device.state t script c.serve_ready.result.log c.serve_ready.result.backing s)
     (λ (s : Session). (found : Super) × IsSession found script before (devices (g.L.Device.state c.serve_ready.result.log) (g.B.Device.state c.serve_ready.result.backing)) (report_of s) × (s.first ≡ recovered_to found))
     (λ s served.
-        let is = session_threads g.L.Device.state g.B.Device.state ready.engine.found script before t c.serve_ready.result.log c.serve_ready.result.backing s from served in
-        (ready.engine.found, is.0, is.1))
+    let is = session_threads g.L.Device.state g.B.Device.state ready.engine.found script before t c.serve_ready.result.log c.serve_ready.result.backing s from served in
+    (ready.engine.found, is.0, is.1))
     c.serve_ready.ensures.session
