@@ -101,7 +101,7 @@ out_of_ids Whole is = absurd (cc)
 out_of_ids (Down device) is = absurd (cc)
 out_of_ids Ids is = refl
 
-stopped_line : (line : Line) → is_stopped_line line ≡ true → HasStop Ids line
+pub stopped_line : (line : Line) → is_stopped_line line ≡ true → HasStop Ids line
 stopped_line (Wrote places stop) is = out_of_ids stop is
 stopped_line (Forced places flush stop) is = out_of_ids stop is
 stopped_line (Got point shown) is = absurd (cc)
@@ -112,7 +112,7 @@ stopped_line (Deferred ended) is = absurd (cc)
 stopped_line Told is = absurd (cc)
 stopped_line Heard is = absurd (cc)
 
-line_stopped : (line : Line) → HasStop Ids line → is_stopped_line line ≡ true
+pub line_stopped : (line : Line) → HasStop Ids line → is_stopped_line line ≡ true
 line_stopped (Wrote places stop) is = subst (λ (s : Stop). is_out_of_ids s ≡ true) (sym is) refl
 line_stopped (Forced places flush stop) is = subst (λ (s : Stop). is_out_of_ids s ≡ true) (sym is) refl
 line_stopped (Got point shown) is = absurd is

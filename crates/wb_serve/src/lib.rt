@@ -6,6 +6,7 @@ mod playing;
 mod serving;
 mod writing;
 
+pub use playing::is_out_of_ids;
 pub use serving::{ServeStop, Served, Session, serve_plain};
 
 #[cfg(test)]

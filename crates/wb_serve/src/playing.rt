@@ -204,7 +204,7 @@ fn read_sum<L: Device, B: Device>(
 }
 
 /// Whether the line says that a write was stopped for want of an id.
-fn is_out_of_ids(line: &Line<'_>) -> bool
+pub fn is_out_of_ids(line: &Line<'_>) -> bool
     ensures { result ≡ is_stopped_line line.now }
 {
     match line {
