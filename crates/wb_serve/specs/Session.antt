@@ -186,7 +186,7 @@ pub record IsCutOf (whole part : List (List Request)) : Type 0 where
   pub each : (client : ℕ) → client < length whole → (count : ℕ) × (slice_index_or part client [] ≡ take count (slice_index_or whole client []))
 
 -- A session that ended for want of memory. Nothing is told of it, but the devices are as a session of the first requests of
--- each client leaves them, whose flushes cover nothing.
+-- each client leaves them, of whose flushes nothing is said to be covered.
 pub record IsCutShort (found : Super) (script : ScriptContent) (before now : Devices) : Type 0 where
   pub answered : List (List Request)
   pub cut : IsCutOf script.requests answered

@@ -18,7 +18,7 @@ use Rattle.wb_tool.specs.declared.command.WorkloadNumbers.{WorkloadNumbers}
 use Rattle.wb_tool.specs.Run.{Lent, Run, run_of, IsUntouched}
 use Rattle.wb_tool.specs.Served.{IsFine, EndsSession, ServedTelling}
 use Rattle.wb_tool.specs.Ends.{Leaves, IsLeftBy, EndsServing}
-use Rattle.wb_tool.specs.Stages.{TellsFault, IsUnread, IsSummed}
+use Rattle.wb_tool.specs.Stages.{IsSessionBy, TellsFault, IsUnread, IsSummed}
 use Rattle.wb_tool.specs.Workload.{ServedWorkload, TellsLine, script_of, line_of}
 use Rattle.wb_tool.proofs.Sessions.{session_leaves}
 
@@ -100,10 +100,10 @@ told_fine sink status front text places ids log_failed backing_failed (inr (inr 
 told_fine sink status front text places ids log_failed backing_failed (inr (inr (inl (fine, spent, ten, took)))) (inr five) = absurd (omega arith)
 told_fine sink status front text places ids log_failed backing_failed (inr (inr (inr (fine, left, telling)))) tells = fine
 
-module _ (numbers : WorkloadNumbers) (region : ℕ) (source sink : Lent) (log_before log_after backing_before mid after : State) (status : ℕ)
+module _ (numbers : WorkloadNumbers) (region : ℕ) (in_turn : Bool) (source sink : Lent) (log_before log_after backing_before mid after : State) (status : ℕ)
     (transcripts : List (List answer.Line)) (places : ℕ) (ids log_failed backing_failed : Bool) (found : Super) where
   abbrev run : Run
-  run = run_of source sink log_before log_after backing_before after status transcripts places
+  run = run_of in_turn source sink log_before log_after backing_before after status transcripts places
 
   abbrev script : ScriptContent
   script = script_of numbers region
@@ -122,9 +122,9 @@ module _ (numbers : WorkloadNumbers) (region : ℕ) (source sink : Lent) (log_be
     device = device;
   }
 
-  unread_leaves : (session : IsSession found script run.before (devices log_after mid) was) → AreInTurn found script run.before (devices log_after mid) was session.history → OnlyRead mid after → IsUnread sink mid after status log_failed backing_failed
+  unread_leaves : IsSessionBy in_turn found script run.before (devices log_after mid) was → OnlyRead mid after → IsUnread sink mid after status log_failed backing_failed
       → Leaves (EndsServing (ServedWorkload numbers region) region) (IsLeftBy script) run
-  unread_leaves session turn read unread =
+  unread_leaves (session, turns) read unread =
       let fine = unread.fine in
       let kept = session.leaves.backing_cause.kept (λ failed. absurd (let both : true ≡ false = sym failed ∙ fine.1 in cc)) in
       let rose : Rose backing_before.faults after.faults = subst (λ (n : ℕ). Rose n after.faults) kept unread.rose in
@@ -134,44 +134,41 @@ module _ (numbers : WorkloadNumbers) (region : ℕ) (source sink : Lent) (log_be
       session_leaves [] (line_of numbers region 0) script run found ids log_failed true (ServedWorkload numbers region)
       (served_of 0 (λ tells. absurd (elim tells [ inl zero ↦ omega (arith, zero, ended) | inr five ↦ omega (arith, five, ended) ])))
       (session_read found script run.before log_after mid after transcripts places ids log_failed backing_failed true read unread.later (λ _. refl) (λ no. absurd (cc)) counts session)
-      (turn_read found script run.before log_after mid after transcripts places ids log_failed backing_failed true session.history unread.later turn)
+      (λ so. turn_read found script run.before log_after mid after transcripts places ids log_failed backing_failed true session.history unread.later (turns so))
       (inr (inr (inl (fine.0, refl, unread.ended, unread.told))))
 
-  summed_leaves : (session : IsSession found script run.before (devices log_after mid) was) → AreInTurn found script run.before (devices log_after mid) was session.history → OnlyRead mid after
+  summed_leaves : IsSessionBy in_turn found script run.before (devices log_after mid) was → OnlyRead mid after
       → IsSummed (line_of numbers region) region sink mid after status places ids log_failed backing_failed
       → Leaves (EndsServing (ServedWorkload numbers region) region) (IsLeftBy script) run
-  summed_leaves session turn read summed =
+  summed_leaves (session, turns) read summed =
       session_leaves [] (line_of numbers region summed.sum) script run found ids log_failed backing_failed (ServedWorkload numbers region)
       (served_of summed.sum (λ tells image told. summed.device tells image (sym read.content ∙ told)))
       (session_read found script run.before log_after mid after transcripts places ids log_failed backing_failed backing_failed read (omega (arith, summed.faults)) (λ is. is) (λ is. is)
       (let kept = summed.faults in rw kept session.leaves.backing_cause) session)
-      (turn_read found script run.before log_after mid after transcripts places ids log_failed backing_failed backing_failed session.history (omega (arith, summed.faults)) turn)
+      (λ so. turn_read found script run.before log_after mid after transcripts places ids log_failed backing_failed backing_failed session.history (omega (arith, summed.faults)) (turns so))
       summed.ends
 
-  pub concluded_leaves : (session : IsSession found script run.before (devices log_after mid) was) → AreInTurn found script run.before (devices log_after mid) was session.history → OnlyRead mid after
+  pub concluded_leaves : IsSessionBy in_turn found script run.before (devices log_after mid) was → OnlyRead mid after
       → IsUnread sink mid after status log_failed backing_failed ⊎ IsSummed (line_of numbers region) region sink mid after status places ids log_failed backing_failed
       → Leaves (EndsServing (ServedWorkload numbers region) region) (IsLeftBy script) run
-  concluded_leaves session turn read (inl unread) = unread_leaves session turn read unread
-  concluded_leaves session turn read (inr summed) = summed_leaves session turn read summed
+  concluded_leaves by read (inl unread) = unread_leaves by read unread
+  concluded_leaves by read (inr summed) = summed_leaves by read summed
 
 -- The same of a script that is known to be the workload.
-pub generated_concluded : (numbers : WorkloadNumbers) (script : ScriptContent) (source sink : Lent) (log_before log_after backing_before mid after : State) (status : ℕ)
+pub generated_concluded : (numbers : WorkloadNumbers) (script : ScriptContent) (in_turn : Bool) (source sink : Lent) (log_before log_after backing_before mid after : State) (status : ℕ)
     (transcripts : List (List answer.Line)) (places : ℕ) (ids log_failed backing_failed : Bool) (found : Super) → script ≡ script_of numbers script.sectors
-    → (session : IsSession found script (devices log_before backing_before) (devices log_after mid)
-    (record { transcripts = transcripts; taken = places; covered = covered transcripts; ids = ids; log_failed = log_failed; backing_failed = backing_failed }))
-    → AreInTurn found script (devices log_before backing_before) (devices log_after mid)
-    (record { transcripts = transcripts; taken = places; covered = covered transcripts; ids = ids; log_failed = log_failed; backing_failed = backing_failed }) session.history
+    → IsSessionBy in_turn found script (devices log_before backing_before) (devices log_after mid)
+    (record { transcripts = transcripts; taken = places; covered = covered transcripts; ids = ids; log_failed = log_failed; backing_failed = backing_failed })
     → OnlyRead mid after
     → IsUnread sink mid after status log_failed backing_failed ⊎ IsSummed (line_of numbers script.sectors) script.sectors sink mid after status places ids log_failed backing_failed
-    → Leaves (EndsServing (ServedWorkload numbers script.sectors) script.sectors) (IsLeftBy script) (run_of source sink log_before log_after backing_before after status transcripts places)
-generated_concluded numbers script source sink log_before log_after backing_before mid after status transcripts places ids log_failed backing_failed found generated session turn read ends =
+    → Leaves (EndsServing (ServedWorkload numbers script.sectors) script.sectors) (IsLeftBy script) (run_of in_turn source sink log_before log_after backing_before after status transcripts places)
+generated_concluded numbers script in_turn source sink log_before log_after backing_before mid after status transcripts places ids log_failed backing_failed found generated by read ends =
     let before = devices log_before backing_before in
     let told : Report = record { transcripts = transcripts; taken = places; covered = covered transcripts; ids = ids; log_failed = log_failed; backing_failed = backing_failed } in
-    let run : Run = run_of source sink log_before log_after backing_before after status transcripts places in
-    let Serves : ScriptContent → Type 0 = λ s. (is : IsSession found s before (devices log_after mid) told) × AreInTurn found s before (devices log_after mid) told is.history in
-    let both = subst Serves generated (session, turn) in
+    let run : Run = run_of in_turn source sink log_before log_after backing_before after status transcripts places in
+    let made = subst (λ (s : ScriptContent). IsSessionBy in_turn found s before (devices log_after mid) told) generated by in
     subst (λ (s : ScriptContent). Leaves (EndsServing (ServedWorkload numbers script.sectors) script.sectors) (IsLeftBy s) run) (sym generated)
-    (concluded_leaves numbers script.sectors source sink log_before log_after backing_before mid after status transcripts places ids log_failed backing_failed found both.0 both.1 read ends)
+    (concluded_leaves numbers script.sectors in_turn source sink log_before log_after backing_before mid after status transcripts places ids log_failed backing_failed found made read ends)
 
 -- what stands where nothing was told of a session
 pub told_nothing : (sink : Lent) (status places : ℕ) (ids log_failed backing_failed : Bool) → (status ≡ 1) ⊎ TellsFault sink status places ids log_failed backing_failed → status ≡ 0

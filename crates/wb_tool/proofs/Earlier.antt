@@ -1,7 +1,6 @@
 -- A run of which the log was read before: what it answers for holds from the log's earlier state on.
-use Rattle.std.proofs.Common.{◌≡◌, ◌⊎◌, ℕ, List, [], inl, inr}
+use Rattle.std.proofs.Common.{◌≡◌, ◌⊎◌, ℕ, [], inl, inr}
 use Rattle.wb_geometry.specs.Device.{State, OnlyRead, IsDevice}
-use Rattle.wb_super.specs.Found.{IsSuper}
 use Rattle.wb_super.specs.declared.reading.Super.{Super}
 use Rattle.wb_super.proofs.Superblocks.{reads_only}
 use Rattle.wb_replay.specs.declared.replaying.ReplayStop.TheVariants as stop
@@ -10,12 +9,12 @@ use Rattle.wb_script.specs.Content.{ScriptContent}
 use Rattle.wb_serve.specs.Session.{devices}
 use Rattle.wb_tool.specs.Run.{Run, Lent}
 use Rattle.wb_tool.specs.Served.{Served}
-use Rattle.wb_tool.specs.Ends.{Leaves, HasIds, EndsUnopened, IsUnbegun, IsLeftBy, IsStopped, EndsServing, IsUnserved, IsOpened, ServingAccount}
+use Rattle.wb_tool.specs.Ends.{Leaves, EndsUnopened, IsUnbegun, IsLeftBy, IsStopped, EndsServing, IsUnserved, IsOpened, ServingAccount}
 use Rattle.wb_tool.specs.Serve.{EndsReading, IsLeftFrom, ServeAccount}
 use Rattle.wb_tool.specs.Stages.{IsGood}
 use Rattle.wb_tool.specs.Workload.{ServedWorkload, EndsWorkload, IsLeftByWorkload, line_of, script_of, region_of}
 use Rattle.wb_tool.specs.declared.command.WorkloadNumbers.{WorkloadNumbers}
-use Rattle.wb_tool.proofs.Moved.{super_before, refuses_before, AreDevices, recovered_before, stopped_before, earlier, cut_before, base_after, served_before}
+use Rattle.wb_tool.proofs.Moved.{super_before, refuses_before, AreDevices, recovered_before, stopped_before, earlier, cut_before, early_before, base_after, served_before}
 
 unopened_before : (sink : Lent) (old mid : State) (sectors status : ℕ) → OnlyRead old mid
     → EndsUnopened sink mid sectors status → EndsUnopened sink old sectors status
@@ -82,6 +81,8 @@ reading_before old sectors run are kept (inr scripted) = inr (record {
   kept = scripted.kept;
   script = scripted.script;
   spelled = scripted.spelled;
+  valid = scripted.valid;
+  made_for = scripted.made_for;
   at_end = scripted.at_end;
   ends = serving_before (Served scripted.script) old scripted.script.sectors run are (served_before _ _ scripted.script old run are.read kept) scripted.ends;
 })
@@ -106,7 +107,8 @@ workload_before numbers old sectors run are kept (inr (some, ends)) =
 left_by_before : (script : ScriptContent) (old : State) (run : Run) → AreDevices old run.before → run.before.log.faults ≡ old.faults → IsLeftBy script run → IsLeftBy script (Earlier old run)
 left_by_before script old run are kept (inl (log, backing)) = inl (synced_then (synced_by_reads are.read) log, backing)
 left_by_before script old run are kept (inr (inl (found, recovered))) = inr (inl (found, recovered_before found are recovered))
-left_by_before script old run are kept (inr (inr (found, cut))) = inr (inr (found, cut_before old run.before run.after found script are.read kept cut))
+left_by_before script old run are kept (inr (inr (inl (found, cut)))) = inr (inr (inl (found, cut_before old run.before run.after found script are.read kept cut)))
+left_by_before script old run are kept (inr (inr (inr (apart, (found, early))))) = inr (inr (inr (apart, (found, early_before old run.before run.after found script are.read kept early))))
 
 left_before : (old : State) (sectors : ℕ) (run : Run) → AreDevices old run.before → run.before.log.faults ≡ old.faults → IsLeftFrom sectors run → IsLeftFrom sectors (Earlier old run)
 left_before old sectors run are kept (inl (log, backing)) = inl (reads_only are.read log, backing)

@@ -18,3 +18,5 @@ pub mod Counts
 pub mod Summed
 pub mod Concluded
 pub mod Regions
+pub mod Threads
+pub mod Begun

@@ -1,5 +1,5 @@
 -- What is said of a log holds of it before it was read.
-use Rattle.std.proofs.Common.{◌≡◌, ◌≤◌, ℕ, List, subst, ◌∙◌, refl, Option, Some, None, IfSome}
+use Rattle.std.proofs.Common.{◌≡◌, ◌≤◌, ℕ, List, subst, ◌∙◌, refl, Option, Some, None, IfSome, Bool, length}
 use Rattle.wb_geometry.specs.History.{HistoryEntry}
 use Rattle.wb_geometry.specs.Image.{Image}
 use Rattle.wb_geometry.specs.Device.{State, IsDevice, OnlyRead}
@@ -14,7 +14,8 @@ use Rattle.wb_script.specs.Content.{ScriptContent}
 use Rattle.wb_replay.specs.declared.replaying.ReplayStop.{ReplayStop}
 use Rattle.wb_engine.specs.Opening.{MayOpen, Goes, HasRecovered, HasStopped}
 use Rattle.wb_engine.proofs.Openings.{goes_opened, recovered_opened, stopped_opened}
-use Rattle.wb_serve.specs.Session.{Devices, Report, IsBase, IsSession, AreInTurn, IsCutShort}
+use Rattle.wb_serve.specs.Session.{Devices, Report, IsBase, SessionLeaves, IsSession, AreInTurn, IsCutShort}
+use Rattle.wb_threads.specs.Threads.{IsLeftEarly}
 use Rattle.wb_tool.specs.Run.{Run}
 use Rattle.wb_tool.specs.Served.{ServedTelling}
 
@@ -87,6 +88,18 @@ bases_after old mid found (Some base) read is = base_after old mid found base re
 
 -- a session
 
+abbrev leaves_before : (old : State) (mid after : Devices) (found : Super) (h : List HistoryEntry) (covers taken : ℕ) (log_failed backing_failed : Bool) → OnlyRead old mid.log
+    → mid.log.faults ≡ old.faults → SessionLeaves found mid after h covers taken log_failed backing_failed → SessionLeaves found (earlier old mid) after h covers taken log_failed backing_failed
+leaves_before old mid after found h covers taken log_failed backing_failed read kept leaves = record {
+  changed = λ base is. leaves.changed base (base_after old mid found base read is);
+  crash = λ base is. leaves.crash base (base_after old mid found base read is);
+  content = λ log_fine fine base is. leaves.content log_fine fine base (base_after old mid found base read is);
+  empty = rw read.content at leaves.empty;
+  durable = leaves.durable;
+  log_cause = rw kept at leaves.log_cause;
+  backing_cause = leaves.backing_cause;
+}
+
 abbrev session_before : (old : State) (mid after : Devices) (found : Super) (script : ScriptContent) (report : Report) → OnlyRead old mid.log → mid.log.faults ≡ old.faults
     → IsSession found script mid after report → IsSession found script (earlier old mid) after report
 session_before old mid after found script report read kept session = record {
@@ -107,15 +120,7 @@ session_before old mid after found script report read kept session = record {
   undone_backing = session.undone_backing;
   ids_told = session.ids_told;
   ids_spent = session.ids_spent;
-  leaves = record {
-    changed = λ base is. session.leaves.changed base (base_after old mid found base read is);
-    crash = λ base is. session.leaves.crash base (base_after old mid found base read is);
-    content = λ log_fine fine base is. session.leaves.content log_fine fine base (base_after old mid found base read is);
-    empty = rw read.content at session.leaves.empty;
-    durable = session.leaves.durable;
-    log_cause = rw kept at session.leaves.log_cause;
-    backing_cause = session.leaves.backing_cause;
-  };
+  leaves = leaves_before old mid after found session.history report.covered report.taken report.log_failed report.backing_failed read kept session.leaves;
 }
 
 abbrev turn_before : (old : State) (mid after : Devices) (found : Super) (script : ScriptContent) (report : Report) (h : List HistoryEntry) → mid.log.faults ≡ old.faults
@@ -142,6 +147,20 @@ cut_before old mid after found script read kept short = record {
   session = session_before old mid after found (record script { requests = short.answered }) short.report read kept short.session;
 }
 
+pub early_before : (old : State) (mid after : Devices) (found : Super) (script : ScriptContent) → OnlyRead old mid.log → mid.log.faults ≡ old.faults → IsLeftEarly found script mid after
+    → IsLeftEarly found script (earlier old mid) after
+early_before old mid after found script read kept early = record {
+  opened = may_before old mid.log mid.backing.sectors read found early.opened;
+  no_stray = rw read.content at early.no_stray;
+  fits = early.fits;
+  history = early.history;
+  clients = early.clients;
+  few = early.few;
+  log_failed = early.log_failed;
+  backing_failed = early.backing_failed;
+  leaves = leaves_before old mid after found early.history 0 (length early.history) early.log_failed early.backing_failed read kept early.leaves;
+}
+
 abbrev pub served_before : (front text : List ℕ) (script : ScriptContent) (old : State) (run : Run) → OnlyRead old run.before.log → run.before.log.faults ≡ old.faults
     → ServedTelling front text script run → ServedTelling front text script (record run { before = earlier old run.before })
 served_before front text script old run read kept served = record {
@@ -150,6 +169,6 @@ served_before front text script old run read kept served = record {
   log_failed = served.log_failed;
   backing_failed = served.backing_failed;
   session = session_before old run.before run.after served.found script _ read kept served.session;
-  in_turn = turn_before old run.before run.after served.found script _ served.session.history kept served.in_turn;
+  turns = λ so. turn_before old run.before run.after served.found script _ served.session.history kept (served.turns so);
   ends = served.ends;
 }

@@ -1,5 +1,5 @@
 -- How `workload` ends before its session.
-use Rattle.std.proofs.Common.{◌≡◌, ◌⊎◌, ◌<◌, ◌≤◌, [], ℕ, List, refl, sym, ap, subst, ◌∙◌, arith, inl, inr}
+use Rattle.std.proofs.Common.{◌≡◌, ◌⊎◌, ◌<◌, ◌≤◌, [], ℕ, refl, sym, ap, subst, ◌∙◌, arith, inl, inr, Bool}
 use Rattle.wb_geometry.specs.Device.{State}
 use Rattle.wb_geometry.specs.declared.which.Which.TheVariants.{Backing}
 use Rattle.wb_geometry.proofs.Moments.{only_read, uncalled}
@@ -13,10 +13,10 @@ use Rattle.wb_tool.specs.Workload.{EndsWorkload, ServedWorkload, IsLeftByWorkloa
 use Rattle.wb_tool.proofs.Accounts.{faults_kept, status_not_6, either_status}
 
 -- the cache is too small
-pub region_leaves : (numbers : WorkloadNumbers) (sectors status : ℕ) (source sink : Lent) (log backing : State) → sectors < 32
+pub region_leaves : (numbers : WorkloadNumbers) (sectors status : ℕ) (in_turn : Bool) (source sink : Lent) (log backing : State) → sectors < 32
     → (status ≡ 1) ⊎ ((status ≡ 9) × Took sink (small_line Backing sectors 32))
-    → Leaves (EndsWorkload numbers sectors) (IsLeftByWorkload numbers sectors) (run_of source sink log log backing backing status [] 0)
-region_leaves numbers sectors status source sink log backing few ended = record {
+    → Leaves (EndsWorkload numbers sectors) (IsLeftByWorkload numbers sectors) (run_of in_turn source sink log log backing backing status [] 0)
+region_leaves numbers sectors status in_turn source sink log backing few ended = record {
   log_faults = λ _. faults_kept status log.faults log.faults (status_not_6 status 9 (λ e. omega arith) (either_status status 9 (Took sink (small_line Backing sectors 32)) ended)) refl;
   backing_faults = λ some _. record {
     later = omega arith;
@@ -37,18 +37,14 @@ region_leaves numbers sectors status source sink log backing few ended = record 
 }
 
 -- there is no memory for its script
-pub unmade_leaves : (numbers : WorkloadNumbers) (sectors : ℕ) (source sink : Lent) (log backing : State)
-    → Leaves (EndsWorkload numbers sectors) (IsLeftByWorkload numbers sectors) (run_of source sink log log backing backing 1 [] 0)
-unmade_leaves numbers sectors source sink log backing = record {
+pub unmade_leaves : (numbers : WorkloadNumbers) (sectors : ℕ) (in_turn : Bool) (source sink : Lent) (log backing : State)
+    → Leaves (EndsWorkload numbers sectors) (IsLeftByWorkload numbers sectors) (run_of in_turn source sink log log backing backing 1 [] 0)
+unmade_leaves numbers sectors in_turn source sink log backing = record {
   log_faults = λ some. absurd (some refl);
   backing_faults = λ some. absurd (some refl);
   wanting = λ _. inl (only_read log, uncalled backing);
   ends = inl refl;
 }
-
--- the script that was made is of its region
-pub made_sectors : (numbers : WorkloadNumbers) (region : ℕ) (script : ScriptContent) → script ≡ workload numbers.seed numbers.count region → script ≡ script_of numbers script.sectors
-made_sectors numbers region script is = is ∙ ap (workload numbers.seed numbers.count) (sym (ap (λ (s : ScriptContent). s.sectors) is))
 
 -- and is served
 made_leaves : (numbers : WorkloadNumbers) (sectors : ℕ) (run : Run) → 32 ≤ sectors
@@ -64,10 +60,13 @@ made_leaves numbers sectors run some leaves = record {
   ];
 }
 
-pub generated_leaves : (numbers : WorkloadNumbers) (sectors region : ℕ) (script : ScriptContent) (run : Run) → 32 ≤ sectors → region ≡ region_of sectors
-    → script ≡ workload numbers.seed numbers.count region
+-- the script that was made is the workload of the region
+pub generated_leaves : (numbers : WorkloadNumbers) (sectors : ℕ) (script : ScriptContent) (run : Run) → 32 ≤ sectors → script ≡ script_of numbers (region_of sectors)
     → Leaves (EndsServing (ServedWorkload numbers script.sectors) script.sectors) (IsLeftBy script) run
     → Leaves (EndsWorkload numbers sectors) (IsLeftByWorkload numbers sectors) run
-generated_leaves numbers sectors region script run some same is leaves =
-    let whole : script ≡ script_of numbers (region_of sectors) = is ∙ ap (workload numbers.seed numbers.count) same in
-    made_leaves numbers sectors run some (subst (λ (s : ScriptContent). Leaves (EndsServing (ServedWorkload numbers s.sectors) s.sectors) (IsLeftBy s) run) whole leaves)
+generated_leaves numbers sectors script run some made leaves =
+    made_leaves numbers sectors run some (subst (λ (s : ScriptContent). Leaves (EndsServing (ServedWorkload numbers s.sectors) s.sectors) (IsLeftBy s) run) made leaves)
+
+-- so it is the workload of its own sectors
+pub made_sectors : (numbers : WorkloadNumbers) (region : ℕ) (script : ScriptContent) → script ≡ script_of numbers region → script ≡ script_of numbers script.sectors
+made_sectors numbers region script made = made ∙ ap (workload numbers.seed numbers.count) (sym (ap (λ (s : ScriptContent). s.sectors) made))

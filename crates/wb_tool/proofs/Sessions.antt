@@ -3,10 +3,9 @@ use Rattle.std.proofs.Common.{◌≡◌, ◌≢◌, ◌⊎◌, List, ℕ, Bool, 
 use Rattle.wb_geometry.specs.Device.{CountsFaultsWhere}
 use Rattle.wb_super.specs.declared.reading.Super.{Super}
 use Rattle.wb_script.specs.Content.{ScriptContent}
-use Rattle.wb_script.specs.Transcripts.{covered}
 use Rattle.wb_serve.specs.Session.{Report, IsSession, AreInTurn}
 use Rattle.wb_serve.proofs.Servings.{cut_nowhere}
-use Rattle.wb_tool.specs.Run.{Lent, Run, EndsTelling}
+use Rattle.wb_tool.specs.Run.{Lent, Run, ServesInTurn, EndsTelling}
 use Rattle.wb_tool.specs.Served.{EndsSession, ServedTelling, report_by}
 use Rattle.wb_tool.specs.Ends.{Leaves, IsLeftBy, EndsServing}
 use Rattle.wb_tool.proofs.Accounts.{telling_not_6}
@@ -59,21 +58,21 @@ module _ (front text : List ℕ) (script : ScriptContent) (run : Run) (found : S
   told = report_by run ids log_failed backing_failed
 
   session_ends : (Ends : Run → Type 0) → (ServedTelling front text script run → Ends run) → (session : IsSession found script run.before run.after told)
-      → AreInTurn found script run.before run.after told session.history
+      → (ServesInTurn run.in_turn script → AreInTurn found script run.before run.after told session.history)
       → (run.status ≡ 1) ⊎ EndsSession run.sink run.status front text run.places ids log_failed backing_failed → (run.status ≡ 1) ⊎ EndsServing Ends script.sectors run
-  session_ends Ends served session turn (inl one) = inl one
-  session_ends Ends served session turn (inr ends) =
-      inr (inr (inr (served (record { found = found; ids = ids; log_failed = log_failed; backing_failed = backing_failed; session = session; in_turn = turn; ends = ends }))))
+  session_ends Ends served session turns (inl one) = inl one
+  session_ends Ends served session turns (inr ends) =
+      inr (inr (inr (served (record { found = found; ids = ids; log_failed = log_failed; backing_failed = backing_failed; session = session; turns = turns; ends = ends }))))
 
   pub session_leaves : (Ends : Run → Type 0) → (ServedTelling front text script run → Ends run) → (session : IsSession found script run.before run.after told)
-      → AreInTurn found script run.before run.after told session.history
+      → (ServesInTurn run.in_turn script → AreInTurn found script run.before run.after told session.history)
       → (run.status ≡ 1) ⊎ EndsSession run.sink run.status front text run.places ids log_failed backing_failed → Leaves (EndsServing Ends script.sectors) (IsLeftBy script) run
-  session_leaves Ends served session turn ends = record {
+  session_leaves Ends served session turns ends = record {
     log_faults = λ some. counts_same (log_failed ≡ true) (run.status ≡ 6) run.before.log.faults run.after.log.faults
         (log_is_6 run.sink run.status front text run.places ids log_failed backing_failed some ends) (log_at_6 run.sink run.status front text run.places ids log_failed backing_failed ends) session.leaves.log_cause;
     backing_faults = λ some other. counts_same (backing_failed ≡ true) (run.status ≡ 7) run.before.backing.faults run.after.backing.faults
         (backing_is_7 run.sink run.status front text run.places ids log_failed backing_failed some other ends)
         (backing_at_7 run.sink run.status front text run.places ids log_failed backing_failed ends) session.leaves.backing_cause;
-    wanting = λ is. inr (inr (found, cut_nowhere session));
-    ends = session_ends Ends served session turn ends;
+    wanting = λ is. inr (inr (inl (found, cut_nowhere session)));
+    ends = session_ends Ends served session turns ends;
   }

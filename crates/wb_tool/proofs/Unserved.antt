@@ -1,5 +1,5 @@
 -- How a command ends where a device isn't good for a session.
-use Rattle.std.proofs.Common.{◌≡◌, ◌≢◌, ◌⊎◌, ◌<◌, [], ℕ, refl, sym, subst, ◌∙◌, arith, inl, inr, Result, Ok, Err}
+use Rattle.std.proofs.Common.{◌≡◌, ◌≢◌, ◌⊎◌, ◌<◌, [], ℕ, refl, sym, subst, ◌∙◌, arith, inl, inr, Result, Ok, Err, Bool}
 use Rattle.wb_geometry.specs.Device.{State, OnlyRead, CountsFaultsWhere}
 use Rattle.wb_geometry.specs.declared.which.Which.TheVariants.{Backing}
 use Rattle.wb_super.specs.Found.{IsSuper}
@@ -76,9 +76,9 @@ unopened_not_7 sink log sectors status some (inr (inl by_log)) seven = absurd (s
 unopened_not_7 sink log sectors status some (inr (inr (inl (found, super, spent)))) seven = absurd (let ten = spent.ended in omega arith)
 unopened_not_7 sink log sectors status some (inr (inr (inr (found, super, ids, small)))) seven = absurd (let nine = small.ended in omega arith)
 
-pub bad_account : (Ends Wants : (sectors : ℕ) → Run → Type 0) (source sink : Lent) (before after backing : State) (status : ℕ) → IsUntouched source → OnlyRead before after
-    → IsBad sink before after backing.sectors status → ServingAccount Ends Wants (run_of source sink before after backing backing status [] 0)
-bad_account Ends Wants source sink before after backing status unread read bad = record {
+pub bad_account : (Ends Wants : (sectors : ℕ) → Run → Type 0) (in_turn : Bool) (source sink : Lent) (before after backing : State) (status : ℕ) → IsUntouched source → OnlyRead before after
+    → IsBad sink before after backing.sectors status → ServingAccount Ends Wants (run_of in_turn source sink before after backing backing status [] 0)
+bad_account Ends Wants in_turn source sink before after backing status unread read bad = record {
   log_faults = λ _. bad.faults;
   backing_faults = λ some _. record {
     later = omega arith;

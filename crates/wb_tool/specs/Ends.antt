@@ -11,7 +11,8 @@ use Rattle.wb_replay.specs.declared.replaying.ReplayStop.{ReplayStop}
 use Rattle.wb_replay.specs.declared.replaying.ReplayStop.TheVariants as stop
 use Rattle.wb_engine.specs.Opening.{most_recorded, HasRecovered, HasStopped}
 use Rattle.wb_serve.specs.Session.{IsCutShort}
-use Rattle.wb_tool.specs.Run.{Lent, Run, IsUntouched, NoSession, BackingIsUncalled, Took}
+use Rattle.wb_threads.specs.Threads.{IsLeftEarly}
+use Rattle.wb_tool.specs.Run.{Lent, Run, IsUntouched, ServesAtOnce, NoSession, BackingIsUncalled, Took}
 use Rattle.wb_tool.specs.Texts.{changed_line, stray_line, failed_line}
 use Rattle.wb_tool.specs.Opening.{EndsByLog, EndsByIds, EndsByBacking}
 
@@ -45,12 +46,14 @@ pub record IsUnbegun (run : Run) : Type 0 where
   pub log : OnlyRead run.before.log run.after.log
 
 -- What a run that ended for want of memory left of the devices, behind this script: they were read and synced at most, or
--- recovered, or are as a session of the first requests of each client leaves them.
+-- recovered, or are as a session of the first requests of each client leaves them. Several clients that are served at once may
+-- leave them as any session of theirs does.
 abbrev pub IsLeftBy : ScriptContent → Run → Type 0
 IsLeftBy script run =
     (IsOnlySynced run.before.log run.after.log × IsOnlySynced run.before.backing run.after.backing)
     ⊎ ((found : Super) × HasRecovered found run.before.log run.after.log run.before.backing run.after.backing)
     ⊎ ((found : Super) × IsCutShort found script run.before run.after)
+    ⊎ (ServesAtOnce run.in_turn script × ((found : Super) × IsLeftEarly found script run.before run.after))
 
 -- before there is a script nothing is done with the devices but that the log is read
 abbrev pub OnlyLogRead : Run → Type 0

@@ -14,3 +14,4 @@ pub mod SlotTexts
 pub mod Slot
 pub mod Recover
 pub mod Account
+pub mod Begun

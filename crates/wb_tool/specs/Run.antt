@@ -1,5 +1,5 @@
 -- A run of the program, as it is seen from outside.
-use Rattle.std.specs.Prelude.{ℕ, ◌≡◌, ◌⊎◌, ◌*◌, ◌/◌, ◌^◌, ◌+◌, List, [], take, min, Option, IfSome}
+use Rattle.std.specs.Prelude.{ℕ, ◌≡◌, ◌≢◌, ◌⊎◌, ◌*◌, ◌/◌, ◌^◌, ◌+◌, Bool, true, false, List, [], take, min, Option, IfSome}
 use Rattle.std.specs.Io.KnownBytes.{Appends}
 use Rattle.wb_geometry.specs.Device.{State, Rose, IsUncalled}
 use Rattle.wb_device.specs.Streams.{AppendsFront}
@@ -32,8 +32,10 @@ pub record IsUntouched (object : Lent) : Type 0 where
   pub bytes : object.after ≡ object.before
   pub faults : HasNotFailed object
 
--- what was lent, both devices at entry and at exit, and what came out
+-- Whether the clients of each script are served one after another, be there one or many, what was lent, both devices at entry
+-- and at exit, and what came out.
 pub record Run : Type 1 where
+  pub in_turn : Bool
   pub source : Lent
   pub sink : Lent
   pub before : Devices
@@ -42,9 +44,10 @@ pub record Run : Type 1 where
   pub transcripts : List (List Line)
   pub places : ℕ
 
-abbrev pub run_of : (source sink : Lent) → (log_before log_after backing_before backing_after : State)
+abbrev pub run_of : (in_turn : Bool) → (source sink : Lent) → (log_before log_after backing_before backing_after : State)
     → (status : ℕ) → List (List Line) → (places : ℕ) → Run
-run_of source sink log_before log_after backing_before backing_after status transcripts places = record {
+run_of in_turn source sink log_before log_after backing_before backing_after status transcripts places = record {
+  in_turn = in_turn;
   source = source;
   sink = sink;
   before = devices log_before backing_before;
@@ -53,6 +56,14 @@ run_of source sink log_before log_after backing_before backing_after status tran
   transcripts = transcripts;
   places = places;
 }
+
+-- the clients of this script are served one after another: so is one alone
+abbrev pub ServesInTurn : (in_turn : Bool) → ScriptContent → Type 0
+ServesInTurn in_turn script = (in_turn ≡ true) ⊎ (script.clients ≡ 1)
+
+-- several clients of this script may be served at once
+abbrev pub ServesAtOnce : (in_turn : Bool) → ScriptContent → Type 0
+ServesAtOnce in_turn script = (in_turn ≡ false) × (script.clients ≢ 1)
 
 abbrev pub LogHasFailed : Run → Type 0
 LogHasFailed run = Rose run.before.log.faults run.after.log.faults

@@ -3,6 +3,7 @@ use Rattle.std.specs.Prelude.{ℕ, ◌≡◌, ◌⊎◌, ◌≤◌, ◌+◌, Lis
 use Rattle.std.specs.Io.KnownBytes.{Consumes, IsAtEnd}
 use Rattle.wb_script.specs.Grammar.{most_bytes}
 use Rattle.wb_script.specs.Content.{ScriptContent}
+use Rattle.wb_script.specs.Valid.{IsValid}
 use Rattle.wb_script.specs.declared.refusal.Cause.{Cause}
 use Rattle.wb_tool.specs.Run.{Run, HasFailed, HasNotFailed, Spells, Refuses, Took}
 use Rattle.wb_tool.specs.Texts.{source_line, refused_line}
@@ -27,11 +28,14 @@ pub record EndsByScript (sectors : ℕ) (run : Run) : Type 0 where
   pub ended : run.status ≡ 3
   pub told : Took run.sink (refused_line line cause)
 
--- The source held a script, of which nothing is left. It is served, where the cache can be opened.
+-- The source held a valid script for a cache of so many backing sectors, and nothing is left of it. It is served, where the
+-- cache can be opened.
 pub record IsScripted (sectors : ℕ) (run : Run) : Type 0 where
   pub kept : HasNotFailed run.source
   pub script : ScriptContent
   pub spelled : Spells sectors run.source script
+  pub valid : IsValid script
+  pub made_for : script.sectors ≡ sectors
   pub at_end : IsAtEnd run.source.after
   pub ends : EndsServing (Served script) script.sectors run
 

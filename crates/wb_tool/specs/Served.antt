@@ -6,7 +6,7 @@ use Rattle.wb_script.specs.Content.{ScriptContent}
 use Rattle.wb_script.specs.Output.{session_text}
 use Rattle.wb_script.specs.Transcripts.{covered}
 use Rattle.wb_serve.specs.Session.{Report, IsSession, AreInTurn}
-use Rattle.wb_tool.specs.Run.{Lent, Run, Took, EndsTelling}
+use Rattle.wb_tool.specs.Run.{Lent, Run, ServesInTurn, Took, EndsTelling}
 use Rattle.wb_tool.specs.Texts.{failed_line, spent_line}
 
 -- neither device failed
@@ -41,8 +41,8 @@ pub record ServedTelling (front text : List ℕ) (script : ScriptContent) (run :
   pub log_failed : Bool
   pub backing_failed : Bool
   pub session : IsSession found script run.before run.after (report_by run ids log_failed backing_failed)
-  -- its clients were served one after another
-  pub in_turn : AreInTurn found script run.before run.after (report_by run ids log_failed backing_failed) session.history
+  -- what its clients leave beside where they were served one after another
+  pub turns : ServesInTurn run.in_turn script → AreInTurn found script run.before run.after (report_by run ids log_failed backing_failed) session.history
   pub ends : EndsSession run.sink run.status front text run.places ids log_failed backing_failed
 
 -- The same of a session that tells its answers, which stand before a fault line too.

@@ -1,16 +1,20 @@
 -- How steps of the commands end that serve a session.
-use Rattle.std.specs.Prelude.{ℕ, ◌≡◌, ◌≢◌, ◌⊎◌, ◌≤◌, Bool, true, false, List, [], Some}
+use Rattle.std.specs.Prelude.{ℕ, ◌≡◌, ◌≢◌, ◌⊎◌, ◌≤◌, Bool, true, false, List, [], Some, Result, Err, IfOk, IfErr}
 use Rattle.wb_geometry.specs.Image.{Image, bytes_at}
-use Rattle.wb_geometry.specs.Device.{State, Rose, OnlyRead, CountsFaultsWhere}
+use Rattle.wb_geometry.specs.Device.{State, Rose, CountsFaultsWhere}
 use Rattle.wb_sum.specs.Crc32c.{sum_of}
 use Rattle.wb_geometry.specs.declared.which.Which.TheVariants.{Log, Backing}
 use Rattle.wb_super.specs.declared.reading.SuperRefused.TheVariants.{Fault}
 use Rattle.wb_super.specs.Found.{IsSuper}
 use Rattle.wb_super.specs.declared.reading.Super.{Super}
 use Rattle.wb_engine.specs.declared.opening.OpenCause.TheVariants as opening
+use Rattle.wb_script.specs.Content.{ScriptContent}
+use Rattle.wb_serve.specs.Session.{Devices, Report, IsSession, AreInTurn, report_of, IsUnserved, SaysLogFault, SaysBackingFault}
+use Rattle.wb_serve.specs.declared.serving.Session.{Session}
 use Rattle.wb_serve.specs.declared.serving.ServeStop.{ServeStop}
 use Rattle.wb_serve.specs.declared.serving.ServeStop.TheVariants as stop
-use Rattle.wb_tool.specs.Run.{Lent, IsUntouched, Took}
+use Rattle.wb_threads.specs.Threads.{IsUnservedOnThreads}
+use Rattle.wb_tool.specs.Run.{Lent, ServesInTurn, ServesAtOnce, IsUntouched, Took}
 use Rattle.wb_tool.specs.Texts.{super_line, super_status, small_line, spent_record_line, spent_line, changed_line, stray_line, failed_line}
 use Rattle.wb_tool.specs.Served.{IsFine, EndsSession}
 use Rattle.wb_tool.specs.Ends.{HasIds, EndsUnopened}
@@ -71,3 +75,21 @@ pub record IsSummed (line : ℕ → List ℕ) (region : ℕ) (sink : Lent) (befo
   pub sum : ℕ
   pub ends : (status ≡ 1) ⊎ EndsSession sink status [] (line sum) places ids log_failed backing_failed
   pub device : (status ≡ 0) ⊎ (status ≡ 5) → (image : Image) → before.content ≡ Some image → sum ≡ sum_of (bytes_at image 0 region)
+
+-- ---- the session
+
+-- a session, and what its clients leave beside where they are served one after another
+abbrev pub IsSessionBy : (in_turn : Bool) → Super → ScriptContent → (before now : Devices) → Report → Type 0
+IsSessionBy in_turn found script before now report = (is : IsSession found script before now report)
+    × (ServesInTurn in_turn script → AreInTurn found script before now report is.history)
+
+-- Why no session was served, by one thread or, where several clients may be served at once, on threads.
+abbrev pub IsUnservedBy : (in_turn : Bool) → ScriptContent → (before now : Devices) → ServeStop → Type 0
+IsUnservedBy in_turn script before now why = IsUnserved script before now why ⊎ (ServesAtOnce in_turn script × IsUnservedOnThreads script before now why)
+
+-- What serving a script leaves, be it on one thread or on several: a session or why there was none, and the rise of the faults.
+pub record IsServedBy (in_turn : Bool) (script : ScriptContent) (before now : Devices) (answer : Result Session ServeStop) : Type 0 where
+  pub session : IfOk answer (λ s. (found : Super) × IsSessionBy in_turn found script before now (report_of s))
+  pub unserved : IfErr answer (IsUnservedBy in_turn script before now)
+  pub log_cause : answer ≢ Err (stop.Open opening.Memory) → CountsFaultsWhere (SaysLogFault answer) before.log.faults now.log.faults
+  pub backing_cause : answer ≢ Err (stop.Open opening.Memory) → CountsFaultsWhere (SaysBackingFault answer) before.backing.faults now.backing.faults

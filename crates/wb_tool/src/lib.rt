@@ -1,5 +1,5 @@
-//! The program as one call: `run_single` takes the words of the command line, a source, a sink and two devices, does
-//! what the words ask, and answers a status. Its contract says what a run answers for (`specs/Account.antt`).
+//! The program as one call: `run` and, on one thread, `run_single` take the words of the command line, a source, a sink and two devices, do
+//! what the words ask, and answer a status. Their contracts say what a run answers for (`specs/Account.antt`).
 #![tactic(auto)]
 
 mod command;
@@ -8,14 +8,14 @@ mod inspecting;
 mod opening;
 mod reading;
 mod recovering;
-mod run;
+mod running;
 mod serving;
 mod slots;
 mod status;
 mod texts;
 mod workload;
 
-pub use run::{Outcome, run_single};
+pub use running::{Outcome, run, run_single};
 
 #[cfg(test)]
 mod tests;

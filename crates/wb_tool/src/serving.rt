@@ -1,18 +1,20 @@
 //! The command `serve`.
-ghost use Rattle.std.specs.Prelude.{◌≡◌, ◌⊎◌};
+ghost use Rattle.std.specs.Prelude.{◌≡◌, ◌⊎◌, Bool, IfOk, IfErr};
 ghost use Rattle.wb_script.specs.Output.{session_text};
-ghost use Rattle.wb_script.specs.Valid.{IsValid};
-ghost use Rattle.wb_tool.specs.Run.{Lent, run_of, lent};
-ghost use Rattle.wb_tool.specs.Served.{Served, EndsSession};
+ghost use Rattle.wb_serve.specs.Session.{devices};
+ghost use Rattle.wb_tool.specs.Run.{Lent, run_of, lent, IsUntouched};
+ghost use Rattle.wb_tool.specs.Served.{EndsSession};
+ghost use Rattle.wb_tool.specs.Served.{Served as ServedAnswers};
+ghost use Rattle.wb_tool.specs.Begun.{HoldsScript, HasBegunServing};
 ghost use Rattle.wb_tool.specs.Ends.{Leaves, EndsServing, IsLeftBy};
 ghost use Rattle.wb_tool.specs.Serve.{ServeAccount, EndsReading, IsLeftFrom};
-ghost use Rattle.wb_tool.specs.Stages.{EndsUnserved, TellsFault, IsCutAt};
+ghost use Rattle.wb_tool.specs.Stages.{IsServedBy, EndsUnserved, TellsFault, IsCutAt};
 
 use crate::opening::{
     judge_devices, refuse_backing, refuse_change, refuse_ids, refuse_log, refuse_stray,
 };
 use crate::reading::{ReadStop, read_all};
-use crate::run::Outcome;
+use crate::running::{Begun, Outcome};
 use crate::status;
 use crate::texts::{BACKING_FAILED, LOG_FAILED, SOURCE_FAILED, refused_text, spent_text, tell};
 use std::alloc::Global;
@@ -20,86 +22,99 @@ use wb_device::{Device, Sink, Source};
 use wb_engine::OpenCause;
 use wb_geometry::Geometry;
 use wb_script::{ParseStop, PrintStop, Script, parse, print};
-use wb_serve::{ServeStop, Session, serve_plain};
+use wb_serve::{ServeStop, Served, Session};
 
-/// The first three stages judge both devices.
-pub fn serve<S: Source, K: Sink, L: Device, B: Device>(
+/// The first five stages, before a session: both devices are judged, and the script is read.
+pub fn prepare_script<S: Source, K: Sink, L: Device, B: Device>(
     alloc: Global,
     source: &mut S,
     sink: &mut K,
     log: L,
     backing: B,
-) -> Outcome<L, B>
-    ensures { ServeAccount (run_of
+) -> Result<Begun<L, B>, Outcome<L, B>>
+    ensures begun { IfOk result (λ begun. HasBegunServing
         (lent (S.left source.old) (S.left source.new) (S.faults source.old) (S.faults source.new))
         (lent (K.taken sink.old) (K.taken sink.new) (K.faults sink.old) (K.faults sink.new))
-        (L.state log) (L.state result.log) (B.state backing) (B.state result.backing)
-        result.status result.transcripts.items result.places) }
+        (L.state log) (L.state begun.log) (B.state backing) begun.script) }
+    ensures kept { IfOk result (λ begun. begun.backing ≡ backing) }
+    ensures ended { IfErr result (λ end. (in_turn : Bool) → ServeAccount (run_of in_turn
+        (lent (S.left source.old) (S.left source.new) (S.faults source.old) (S.faults source.new))
+        (lent (K.taken sink.old) (K.taken sink.new) (K.faults sink.old) (K.faults sink.new))
+        (L.state log) (L.state end.log) (B.state backing) (B.state end.backing)
+        end.status end.transcripts.items end.places)) }
 {
     let mut log = log;
     match judge_devices(alloc, sink, &mut log, &backing) {
-        Ok(found) => serve_source(alloc, source, sink, log, backing, &found.geometry),
-        Err(status) => Outcome::without_session(alloc, status, log, backing),
+        Ok(found) => read_script(alloc, source, sink, log, backing, &found.geometry),
+        Err(status) => Err(Outcome::without_session(alloc, status, log, backing)),
     }
 }
 
-/// The next two: the source, and the script that it holds.
-fn serve_source<S: Source, K: Sink, L: Device, B: Device>(
+/// The source is read, and the script that it holds.
+fn read_script<S: Source, K: Sink, L: Device, B: Device>(
     alloc: Global,
     source: &mut S,
     sink: &mut K,
     log: L,
     backing: B,
     geometry: &Geometry,
-) -> Outcome<L, B>
-    ensures { Leaves (EndsReading geometry.now.backing_sectors) (IsLeftFrom geometry.now.backing_sectors) (run_of
+) -> Result<Begun<L, B>, Outcome<L, B>>
+    ensures script { IfOk result (λ begun. HoldsScript geometry.now.backing_sectors
+        (lent (S.left source.old) (S.left source.new) (S.faults source.old) (S.faults source.new)) begun.script) }
+    ensures kept { IfOk result (λ begun. (begun.log ≡ log) × (begun.backing ≡ backing) × IsUntouched (lent (K.taken sink.old) (K.taken sink.new) (K.faults sink.old) (K.faults sink.new))) }
+    ensures ended { IfErr result (λ end. (in_turn : Bool) → Leaves (EndsReading geometry.now.backing_sectors) (IsLeftFrom geometry.now.backing_sectors) (run_of in_turn
         (lent (S.left source.old) (S.left source.new) (S.faults source.old) (S.faults source.new))
         (lent (K.taken sink.old) (K.taken sink.new) (K.faults sink.old) (K.faults sink.new))
-        (L.state log) (L.state result.log) (B.state backing) (B.state result.backing)
-        result.status result.transcripts.items result.places) }
+        (L.state log) (L.state end.log) (B.state backing) (B.state end.backing)
+        end.status end.transcripts.items end.places)) }
 {
     let bytes = match read_all(alloc, source) {
         Ok(bytes) => bytes,
         Err(ReadStop::Memory) => {
-            return Outcome::without_session(alloc, status::MEMORY, log, backing);
+            return Err(Outcome::without_session(alloc, status::MEMORY, log, backing));
         }
         Err(ReadStop::Fault) => {
             tell(sink, SOURCE_FAILED);
-            return Outcome::without_session(alloc, status::SOURCE, log, backing);
+            return Err(Outcome::without_session(alloc, status::SOURCE, log, backing));
         }
     };
     match parse(alloc, bytes.as_slice(), geometry) {
-        Ok(script) => serve_script(alloc, sink, log, backing, &script),
-        Err(ParseStop::Memory) => Outcome::without_session(alloc, status::MEMORY, log, backing),
+        Ok(script) => Ok(Begun {
+            log,
+            backing,
+            script,
+        }),
+        Err(ParseStop::Memory) => {
+            Err(Outcome::without_session(alloc, status::MEMORY, log, backing))
+        }
         Err(ParseStop::Refused(refused)) => {
             let Ok(text) = refused_text(alloc, refused) else {
-                return Outcome::without_session(alloc, status::MEMORY, log, backing);
+                return Err(Outcome::without_session(alloc, status::MEMORY, log, backing));
             };
             tell(sink, text.as_str());
-            Outcome::without_session(alloc, status::SCRIPT, log, backing)
+            Err(Outcome::without_session(alloc, status::SCRIPT, log, backing))
         }
     }
 }
 
-/// The last: the session, over a cache that is opened for it.
-fn serve_script<K: Sink, L: Device, B: Device>(
+/// The last stage, behind a session over a cache that was opened for it: its answers are told, or why there was none.
+pub fn tell_answers<K: Sink, L: Device, B: Device>(
     alloc: Global,
     sink: &mut K,
-    log: L,
-    backing: B,
     script: &Script,
+    served: Served<L, B>,
 ) -> Outcome<L, B>
-    requires valid { IsValid script.now }
-    ensures { (source : Lent) → Leaves (EndsServing (Served script.now) script.now.sectors) (IsLeftBy script.now) (run_of source
+    ensures { (in_turn : Bool) (source : Lent) (log : L) (backing : B) → IsServedBy in_turn script.now (devices (L.state log) (B.state backing)) (devices (L.state served.log) (B.state served.backing)) served.answer
+        → Leaves (EndsServing (ServedAnswers script.now) script.now.sectors) (IsLeftBy script.now) (run_of in_turn source
         (lent (K.taken sink.old) (K.taken sink.new) (K.faults sink.old) (K.faults sink.new))
         (L.state log) (L.state result.log) (B.state backing) (B.state result.backing)
         result.status result.transcripts.items result.places) }
 {
-    let wb_serve::Served {
+    let Served {
         log,
         backing,
         answer,
-    } = serve_plain(alloc, log, backing, script);
+    } = served;
     match answer {
         Ok(session) => {
             let status = report(alloc, sink, script, &session);

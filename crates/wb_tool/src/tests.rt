@@ -8,6 +8,7 @@ mod faults;
 mod flushes;
 mod seeded;
 mod streams;
+mod threads;
 mod workload;
 mod wrapping;
 

@@ -1,25 +1,27 @@
 //! The command `workload`.
-ghost use Rattle.std.specs.Prelude.{◌≡◌, ◌⊎◌, ◌+◌, ◌≤◌, ◌++◌, ℕ, List, Some, IfOk, OnOk};
+ghost use Rattle.std.specs.Prelude.{◌≡◌, ◌⊎◌, ◌+◌, ◌≤◌, ◌++◌, ℕ, Bool, List, Some, IfOk, IfErr, OnOk};
 ghost use Rattle.std.specs.String.{string_bytes};
 ghost use Rattle.wb_geometry.specs.Image.{Image, bytes_at};
 ghost use Rattle.wb_geometry.specs.Device.{OnlyRead, CountsFaults, HasCause};
 ghost use Rattle.wb_sum.specs.Crc32c.{sum_of};
 ghost use Rattle.wb_script.specs.Valid.{IsValid};
+ghost use Rattle.wb_serve.specs.Session.{devices};
 ghost use Rattle.wb_tool.specs.Run.{Lent, IsUntouched, run_of, lent};
+ghost use Rattle.wb_tool.specs.Begun.{HasBegunWorkload};
 ghost use Rattle.wb_tool.specs.Ends.{Leaves, EndsServing, IsLeftBy};
-ghost use Rattle.wb_tool.specs.Stages.{IsUnread, IsSummed};
-ghost use Rattle.wb_tool.specs.Workload.{WorkloadAccount, EndsWorkload, ServedWorkload, IsLeftByWorkload, script_of, counts_of, line_of};
+ghost use Rattle.wb_tool.specs.Stages.{IsServedBy, IsUnread, IsSummed};
+ghost use Rattle.wb_tool.specs.Workload.{WorkloadAccount, EndsWorkload, ServedWorkload, IsLeftByWorkload, script_of, region_of, counts_of, line_of};
 
 use crate::command::WorkloadNumbers;
 use crate::opening::{judge_devices, refuse_backing};
-use crate::run::Outcome;
+use crate::running::{Begun, Outcome};
 use crate::serving::{refuse_session, tell_fault};
 use crate::status;
 use crate::texts::{BACKING_FAILED, answer, tell};
 use std::alloc::{AllocError, Global};
 use wb_device::{Device, DeviceFault, Sink};
 use wb_script::{Script, generate, sum_text};
-use wb_serve::{Served, Session, serve_plain};
+use wb_serve::{Served, Session};
 use wb_sum::Sum;
 
 /// The sectors of a region are a multiple of this.
@@ -40,71 +42,80 @@ const PIECE_SECTORS: u64 = 32;
 /// The bytes of a sector.
 const SECTOR_BYTES: usize = 512;
 
-/// Serves the workload of a seed, and tells its line. The first three stages judge both devices.
-pub fn serve_workload<K: Sink, L: Device, B: Device>(
+/// The first five stages of a workload, before its session: both devices are judged, and its script is made.
+pub fn prepare_workload<K: Sink, L: Device, B: Device>(
     alloc: Global,
     sink: &mut K,
     log: L,
     backing: B,
     numbers: WorkloadNumbers,
-) -> Outcome<L, B>
+) -> Result<Begun<L, B>, Outcome<L, B>>
     requires some { 1 ≤ numbers.count }
     requires few { numbers.count ≤ 25000 }
-    ensures { (source : Lent) → IsUntouched source → WorkloadAccount numbers (run_of source
+    ensures begun { IfOk result (λ begun. HasBegunWorkload numbers
         (lent (K.taken sink.old) (K.taken sink.new) (K.faults sink.old) (K.faults sink.new))
-        (L.state log) (L.state result.log) (B.state backing) (B.state result.backing)
-        result.status result.transcripts.items result.places) }
+        (L.state log) (L.state begun.log) (B.state backing) begun.script) }
+    ensures kept { IfOk result (λ begun. begun.backing ≡ backing) }
+    ensures ended { IfErr result (λ end. (in_turn : Bool) (source : Lent) → IsUntouched source → WorkloadAccount numbers (run_of in_turn source
+        (lent (K.taken sink.old) (K.taken sink.new) (K.faults sink.old) (K.faults sink.new))
+        (L.state log) (L.state end.log) (B.state backing) (B.state end.backing)
+        end.status end.transcripts.items end.places)) }
 {
     let mut log = log;
     match judge_devices(alloc, sink, &mut log, &backing) {
         Ok(found) => {
             let sectors = found.geometry.backing_sectors;
-            serve_region(alloc, sink, log, backing, numbers, sectors)
+            make_script(alloc, sink, log, backing, numbers, sectors)
         }
-        Err(status) => Outcome::without_session(alloc, status, log, backing),
+        Err(status) => Err(Outcome::without_session(alloc, status, log, backing)),
     }
 }
 
-/// The next two: the sectors that the workload is for, of a cache of so many, and its script.
-fn serve_region<K: Sink, L: Device, B: Device>(
+/// The sectors that the workload is for, of a cache of so many, and its script.
+fn make_script<K: Sink, L: Device, B: Device>(
     alloc: Global,
     sink: &mut K,
     log: L,
     backing: B,
     numbers: WorkloadNumbers,
     sectors: u64,
-) -> Outcome<L, B>
+) -> Result<Begun<L, B>, Outcome<L, B>>
     requires some { 1 ≤ numbers.count }
     requires few { numbers.count ≤ 25000 }
-    ensures { (source : Lent) → Leaves (EndsWorkload numbers sectors) (IsLeftByWorkload numbers sectors) (run_of source
+    ensures script { IfOk result (λ begun. IsValid begun.script × (32 ≤ sectors) × (begun.script ≡ script_of numbers (region_of sectors))) }
+    ensures kept { IfOk result (λ begun. (begun.log ≡ log) × (begun.backing ≡ backing) × IsUntouched (lent (K.taken sink.old) (K.taken sink.new) (K.faults sink.old) (K.faults sink.new))) }
+    ensures ended { IfErr result (λ end. (in_turn : Bool) (source : Lent) → Leaves (EndsWorkload numbers sectors) (IsLeftByWorkload numbers sectors) (run_of in_turn source
         (lent (K.taken sink.old) (K.taken sink.new) (K.faults sink.old) (K.faults sink.new))
-        (L.state log) (L.state result.log) (B.state backing) (B.state result.backing)
-        result.status result.transcripts.items result.places) }
+        (L.state log) (L.state end.log) (B.state backing) (B.state end.backing)
+        end.status end.transcripts.items end.places)) }
 {
     let region = sectors.min(MOST_SECTORS) / REGION_UNIT * REGION_UNIT;
     if region == 0 {
         let status = refuse_backing(alloc, sink, sectors, REGION_UNIT);
-        return Outcome::without_session(alloc, status, log, backing);
+        return Err(Outcome::without_session(alloc, status, log, backing));
     }
     match generate(alloc, numbers.seed, numbers.count, region) {
-        Ok(script) => serve_generated(alloc, sink, log, backing, numbers, &script),
-        Err(_) => Outcome::without_session(alloc, status::MEMORY, log, backing),
+        Ok(script) => Ok(Begun {
+            log,
+            backing,
+            script,
+        }),
+        Err(_) => Err(Outcome::without_session(alloc, status::MEMORY, log, backing)),
     }
 }
 
-/// The last: the session, over a cache that is opened for it, and the line.
-fn serve_generated<K: Sink, L: Device, B: Device>(
+/// The last stage, behind a session over a cache that was opened for it: the line is told, or why there was none.
+pub fn tell_sum<K: Sink, L: Device, B: Device>(
     alloc: Global,
     sink: &mut K,
-    log: L,
-    backing: B,
     numbers: WorkloadNumbers,
     script: &Script,
+    served: Served<L, B>,
 ) -> Outcome<L, B>
-    requires valid { IsValid script.now }
     requires few { numbers.count ≤ 25000 }
     requires generated { script.now ≡ script_of numbers script.now.sectors }
-    ensures { (source : Lent) → Leaves (EndsServing (ServedWorkload numbers script.now.sectors) script.now.sectors) (IsLeftBy script.now) (run_of source
+    ensures { (in_turn : Bool) (source : Lent) (log : L) (backing : B) → IsServedBy in_turn script.now (devices (L.state log) (B.state backing)) (devices (L.state served.log) (B.state served.backing)) served.answer
+        → Leaves (EndsServing (ServedWorkload numbers script.now.sectors) script.now.sectors) (IsLeftBy script.now) (run_of in_turn source
         (lent (K.taken sink.old) (K.taken sink.new) (K.faults sink.old) (K.faults sink.new))
         (L.state log) (L.state result.log) (B.state backing) (B.state result.backing)
         result.status result.transcripts.items result.places) }
@@ -113,7 +124,7 @@ fn serve_generated<K: Sink, L: Device, B: Device>(
         log,
         backing,
         answer,
-    } = serve_plain(alloc, log, backing, script);
+    } = served;
     let mut backing = backing;
     match answer {
         Ok(session) => {

@@ -10,10 +10,10 @@ use wb_geometry::Geometry;
 use wb_script::Transcript;
 
 /// The most sectors that a workload is for.
-const MOST_SECTORS: u64 = 65_536;
+pub const MOST_SECTORS: u64 = 65_536;
 
 /// The line of seed 7 with 5,000 requests of each client, over zeros.
-const LARGE: &[u8] =
+pub const LARGE: &[u8] =
     b"workload seed 7 clients 4 requests 20000 writes 9920 reads 9920 flushes 160 sum 72745115\n";
 
 /// Whether these are the transcripts of four clients with so many requests.

@@ -1,4 +1,4 @@
-use Rattle.std.proofs.Common.{inl, inr, refl, ◌∙◌, arith}
+use Rattle.std.proofs.Common.{inl, inr, refl, ◌∙◌}
 use Rattle.wb_tool.proofs.Accounts.{telling_same}
 use Rattle.wb_tool.proofs.Concluded.{told_nothing}
 use Rattle.wb_tool.proofs.workload.conclude.Goals as goal
