@@ -1,6 +1,7 @@
 -- What turns leave of the numbers that are published.
-use Rattle.std.proofs.Common.{◌≡◌, inl, inr, ℕ, ◌+◌, ◌-◌, ◌*◌, ◌/◌, ◌%◌, ◌≤◌, sym, ap, subst, arith, Result, Ok, Err}
-use Rattle.std.proofs.Math.Nat.{mul-le-mul_left, mul_comm, mul-add, mul-mod_right, div-add-mod}
+use Rattle.std.proofs.Common.{◌≡◌, inl, inr, ℕ, ◌+◌, ◌-◌, ◌*◌, ◌/◌, ◌%◌, ◌≤◌, sym, ap, ◌∙◌, subst, arith, Option, None, Some, Result, Ok, Err, IfErr}
+use Rattle.std.specs.Prelude.{OnOk}
+use Rattle.std.proofs.Math.Nat.{mul-le-mul_left, mul_comm, mul-add, mul-mod_right, div-add-mod, div-mul-le_self, le-div_iff_mul-le}
 use Rattle.wb_geometry.specs.Device.{State}
 use Rattle.wb_geometry.specs.Layout.{places}
 use Rattle.wb_geometry.specs.declared.geometry.Geometry.{Geometry}
@@ -56,6 +57,33 @@ stable_up old new geometry first stable = subst (λ (g : Geometry). stable_place
 -- so many whole segments are no more places than were taken
 whole_below : (n a s : ℕ) → s ≤ a / n → n * s ≤ a
 whole_below n a s low = let up = times_up n s (a / n) low in let x : ℕ = n * (a / n) in let y : ℕ = n * s in let d : x + a % n ≡ a = div-add-mod a n in let up' : y ≤ x = up in let g : y ≤ a = omega (arith, d, up') in g
+
+-- without those of a begun segment places are whole segments
+pub rest_whole : (n number other : ℕ) → number ≡ other → (n - n % number) % other ≡ 0
+rest_whole n number other same =
+    let x : ℕ = number * (n / number) in
+    let d : x + n % number ≡ n = div-add-mod n number in
+    let whole : n - n % number ≡ x = omega (arith, d) in
+    subst (λ (k : ℕ). (n - n % number) % k ≡ 0) same (ap (λ (m : ℕ). m % number) whole ∙ mul-mod_right number (n / number))
+
+-- and no fewer than any whole segments among them
+pub rest_covers : (low n number other : ℕ) → number ≡ other → 1 ≤ number → low % other ≡ 0 → low ≤ n → low ≤ n - n % number
+rest_covers low n number other same some whole le =
+    let x : ℕ = number * (n / number) in
+    let y : ℕ = number * (low / number) in
+    let d : x + n % number ≡ n = div-add-mod n number in
+    let e : y + low % number ≡ low = div-add-mod low number in
+    let none : low % number ≡ 0 = subst (λ (k : ℕ). low % k ≡ 0) (sym same) whole in
+    let few : low / number * number ≤ low = div-mul-le_self low number in
+    let up : low / number ≤ n / number = (le-div_iff_mul-le {k = number} {x = low / number} {y = n} some).1 (omega (arith, few, le)) in
+    let more : y ≤ x = times_up number (low / number) (n / number) up in
+    omega (arith, d, e, none, more)
+
+-- where an engine that is up was settled up to there, all places below are stable
+pub settled_below : {L B T : Type 0} (e : EngineContent L B) (result : Result T Which) (low place : ℕ) → low ≤ place → OnOk result (place ≤ stable_places e) → IfErr result (λ which. e.down ≡ Some which)
+    → e.down ≡ None → low ≤ stable_places e
+settled_below e (Ok x) low place le stable failed up = omega (arith, le, stable)
+settled_below e (Err which) low place le stable failed up = absurd (let both : ◌≡◌ {A = Option Which} (Some which) None = sym failed ∙ up in cc)
 
 -- what a sound engine's limit and stable places are
 module _ {L B : Type 0} (of_log : L → State) (of_backing : B → State) (e : EngineContent L B) (sound : IsEngine of_log of_backing e) where

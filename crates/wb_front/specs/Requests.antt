@@ -85,8 +85,8 @@ pub record IsShort (before now : Loads) (w : View) (number : ℕ) (d : Down) : T
   pub seen_fault : w.seen.fault ≡ parts_of word
   pub down : down_part d.device w.seen.fault ≡ 1
 
--- A flush of this number isn't done: fewer places are stable, and the engine is down by the device. It was seen so twice, both words
--- being loaded each time: behind a fault word that tells that the engine is down no more places become stable.
+-- A flush of this number isn't done: fewer places are stable, and the engine is down by the device. Both words were loaded twice
+-- at least; what the first loads found isn't said.
 pub record IsUndone (before now : Loads) (w : View) (number : ℕ) (d : Down) : Type 0 where
   pub between : Loads
   pub seen : View

@@ -60,7 +60,7 @@ impl<'g, L: Device, B: Device, G: Gate, T: Named> Front<'g, L, B, G, T> {
 
     /// Awaits a flush: polls, and while it is pending takes the lock, drains and settles. The number of the ticket is a whole
     /// number of segments, and no more than the cursor that the pass has seen. It may wait. An `Err` comes only where the
-    /// engine is down by that device and the stable number is below the ticket's. The pass has then seen both, twice.
+    /// engine is down by that device and the stable number is below the ticket's, as the pass has then seen.
     pub fn wait_flush<R: Wait>(
         &self,
         rt: &R,
@@ -127,7 +127,8 @@ impl<'g, L: Device, B: Device, G: Gate, T: Named> Front<'g, L, B, G, T> {
 }
 
 impl<L: Device, B: Device, T: Named> Core<L, B, T> {
-    /// Drains, and makes the first `number` places stable where all of them were drained and the engine is up. Answers whether
+    /// Drains, and makes the first `number` places stable where all of them were drained and the engine is up: and with them
+    /// all whole segments that were drained, so that one sync does for every flush that is posted by then. Answers whether
     /// they were. That a device failed is told by the fault word.
     fn flush(&mut self, intake: &Intake, number: u64) -> bool
         requires own { IsIntakeOf T.carried intake.now }
@@ -137,11 +138,13 @@ impl<L: Device, B: Device, T: Named> Core<L, B, T> {
         ensures stable { result ≡ true → self.new.engine.down ≡ None → number ≤ stable_places self.new.engine }
         ensures waits { result ≡ false → (length (drained self.new) < number) × (self.new.engine.log ≡ self.old.engine.log) × (self.new.engine.backing ≡ self.old.engine.backing) }
     {
-        if self.drain(intake) < number {
+        let drained = self.drain(intake);
+        if drained < number {
             return false;
         }
-        if self.down().is_none() {
-            let _settled = self.settle(intake, number);
+        if self.down().is_none() && self.engine.stable() < number {
+            let begun = drained % self.engine.geometry().places();
+            let _settled = self.settle(intake, drained - begun);
         }
         true
     }

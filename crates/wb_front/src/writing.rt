@@ -2,7 +2,8 @@
 ghost use Rattle.std.specs.Prelude.{◌≡◌, ◌≢◌, ◌+◌, ◌*◌, ◌/◌, ◌%◌, ◌^◌, ◌<◌, ◌≤◌, ℕ, true, false, [], ◌∷◌, length, map, All, None, IfOk, IfErr, IfSome};
 ghost use Rattle.wb_geometry.specs.History.{Write};
 ghost use Rattle.wb_geometry.specs.Requests.{parts, entries_of};
-ghost use Rattle.wb_steps.specs.Rule.{shape_of};
+ghost use Rattle.wb_steps.specs.Rule.{shape_of, segment_at};
+ghost use Rattle.wb_intake.specs.Sights.{IsLoaded};
 ghost use Rattle.wb_intake.specs.Belongs.{Saw, HasLearnt, IsCause};
 ghost use Rattle.wb_intake.specs.Passes.{pass_name, client_of_pass, view_of, loads_of};
 ghost use Rattle.wb_front.specs.Requests.{IsPassOf, HasPut, IsWriteCause, IsFullAndDown, IsSince, MakesRoom, IsPieceInside, written, ArePieces};
@@ -200,6 +201,8 @@ impl<'g, L: Device, B: Device, G: Gate, T: Named> Front<'g, L, B, G, T> {
         ensures refused { IfErr result (λ n. (n.payload ≡ payload) × Saw (view_of pass.old) (view_of pass.new) × HasLearnt (view_of pass.new) n.cause
             × IsCause (shape_of T.carried.geometry T.carried.first) (loads_of pass.old) (loads_of pass.new) n.cause) }
         ensures loaded { IfOk result (λ place. IsSince (loads_of pass.old) (loads_of pass.new)) }
+        ensures room { IfOk result (λ place. (segment_at (shape_of T.carried.geometry T.carried.first) place ≤ 2 ^ 48) × (place < (view_of pass.new).seen.limit)
+            × IsLoaded (loads_of pass.old).cursor (loads_of pass.new).cursor place × IsLoaded (loads_of pass.old).limit (loads_of pass.new).limit (view_of pass.new).seen.limit) }
         ensures others { ((loads_of pass.new).stable ≡ (loads_of pass.old).stable) × ((loads_of pass.new).fault ≡ (loads_of pass.old).fault) × ((loads_of pass.new).cell ≡ (loads_of pass.old).cell) }
     {
         let claim = match self.intake.claim(pass, block, &payload) {
