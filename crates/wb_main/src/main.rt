@@ -1,5 +1,5 @@
-//! The program `wblog`: the words of the command line, standard input and output, and two image files, handed to the top
-//! call.
+//! The program `wblog`: the words of the command line, standard input and output, two image files and the threads of the
+//! system, handed to the top call.
 #![tactic(auto)]
 
 use std::alloc::AllocError;
@@ -8,7 +8,8 @@ use std::io::ErrorKind;
 use std::process::ExitCode;
 use std::rt::Env;
 use wb_device::{FileDevice, StdinSource, StdoutSink};
-use wb_tool::run_single;
+use wb_front::Open;
+use wb_tool::run;
 
 fn main(rt: HostRuntime) -> ExitCode {
     let alloc = rt.alloc();
@@ -19,7 +20,16 @@ fn main(rt: HostRuntime) -> ExitCode {
     let backing = FileDevice::open(&rt, word(&words, 2));
     let mut source = StdinSource::new(rt.stdin());
     let mut sink = StdoutSink::new(rt.stdout());
-    let outcome = run_single(alloc, &words, &mut source, &mut sink, log, backing);
+    let outcome = run(
+        &rt,
+        alloc,
+        &words,
+        &mut source,
+        &mut sink,
+        log,
+        backing,
+        &Open,
+    );
     ExitCode::from(outcome.status)
 }
 
